@@ -6,5 +6,8 @@ fn main(rt: LibcRuntime) -> io::Result<()> {
     let windows = limits::most_windows();
     let words = limits::most_words();
     println!(rt, "usage: browse SETTINGS BOOK")?;
-    println!(rt, "at most {windows} windows, and {words} words waiting for each")
+    println!(
+        rt,
+        "at most {windows} windows, and {words} words waiting for each"
+    )
 }
