@@ -1,1 +1,6 @@
 pub mod Places
+pub mod Same
+pub mod Close
+pub mod Shown
+pub mod Acts
+pub mod Steps
