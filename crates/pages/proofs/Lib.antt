@@ -4,3 +4,4 @@ pub mod Close
 pub mod Shown
 pub mod Acts
 pub mod Steps
+pub mod Whole

@@ -1,4 +1,3 @@
-// The promise of the browser, and its limits.
-ghost use mathlib.Core.Path.{_≡_};
-
+// The promise: of a site, others learn what it lets out, and nothing else. The definitions and statements are in specs/; here are the functions whose contracts ask for their proofs.
 pub mod limits;
+pub mod promise;
