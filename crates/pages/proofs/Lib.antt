@@ -5,3 +5,4 @@ pub mod Shown
 pub mod Acts
 pub mod Steps
 pub mod Whole
+pub mod Table

@@ -5,3 +5,4 @@ pub mod Runs
 pub mod Views
 pub mod Promise
 pub mod Laws
+pub mod Cases
