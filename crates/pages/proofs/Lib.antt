@@ -1,3 +1,7 @@
 pub mod Places
 pub mod LetOuts
-pub mod Moments
+pub mod Invariants
+pub mod Bounds
+pub mod NamedSites
+pub mod LastKept
+pub mod TrueWords
