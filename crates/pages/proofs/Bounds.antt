@@ -10,16 +10,11 @@ use borrow.Author.Tests.{ltb-true}
 use Rattle.std.specs.declared.option.Option.{Option}
 use Rattle.std.specs.declared.option.Option.the-variants.{Some, None}
 use Rattle.pages.specs.Sites.{Bytes, Act, Idle, Asks, Says, Keeps, Looks, Opens, Request, Reply, Scripts, Sites}
-use Rattle.pages.specs.Browser.{Word, Window, Part, World, mostWindows, mostWords, at, nth, isSilence, otherWords, actOf, joined, hears, acted, pageNeeded, needsBy, repliedTo, begunBy, needsOf, begun, needs, exchanged, happens, Event, Opening, TurnOf}
+use Rattle.pages.specs.Browser.{Word, Window, Part, World, mostWindows, mostWords, nth, isSilence, otherWords, actOf, joined, hears, pageNeeded, needsBy, repliedTo, needsOf, begun, needs, happens, Event, Opening, TurnOf}
 use Rattle.pages.specs.Runs.{Due, Run, dueNow, stepBy, step, begin}
 use Rattle.pages.specs.Laws.{Every, Limits}
 use Rattle.pages.proofs.Places.{none-some, change-length}
-use Rattle.pages.proofs.Invariants.{always, every-happens}
-
--- in whose name a reply comes; in nobody's, a window is added
-abbrev whose : Event → Request → Option ℕ
-whose (Opening t h) a = None
-whose (TurnOf i) a = a .from
+use Rattle.pages.proofs.Invariants.{always, begun-keeps, whose, exchanged-keeps, every-happens}
 
 -- a window is added only to fewer than 16
 abbrev HasRoom : Event → Option Request → ℕ → Type 0
@@ -56,21 +51,9 @@ module _ {S : Type 0} where
   needs-room c (TurnOf i) b = turn-room c i (nth i (b .windows)) b
 
   -- before a server is asked no window is added
-  acted-length : (i s : ℕ) (a : Act) (b : Part S) → length (acted i s a b .windows) ≡ length (b .windows)
-  acted-length i s Idle b = refl
-  acted-length i s (Asks t h d) b = refl
-  acted-length i s (Says j t d) b = change-length j _ (b .windows)
-  acted-length i s (Keeps d) b = refl
-  acted-length i s Looks b = change-length i _ (b .windows)
-  acted-length i s (Opens t h) b = refl
-
-  begunBy-length : (c : Scripts S) (i : ℕ) (f : Option (Window S)) (b : Part S) → length (begunBy c i f b .windows) ≡ length (b .windows)
-  begunBy-length c i None b = refl
-  begunBy-length c i (Some x) b = acted-length i (x .site) (actOf c x) _ ∙ change-length i _ (b .windows)
-
   begun-length : (c : Scripts S) (e : Event) (b : Part S) → length (begun c e b .windows) ≡ length (b .windows)
-  begun-length c (Opening t h) b = refl
-  begun-length c (TurnOf i) b = begunBy-length c i (nth i (b .windows)) b
+  begun-length c e b =
+      begun-keeps (λ xs. length xs ≡ length (b .windows)) c (λ i xs h. change-length i _ xs ∙ h) (λ i m xs h. change-length i _ xs ∙ h) (λ i t m xs h. change-length i _ xs ∙ h) e b refl
 
   replied-length : (c : Scripts S) (i : ℕ) (o : Option ℕ) (a : Request) (r : Reply) (b : Part S) → (o ≡ None → length (b .windows) < 16) → length (b .windows) ≤ 16 → length (repliedTo c i o a r b .windows) ≤ 16
   replied-length c i None a r b k h = let room : length (b .windows) < 16 = k refl in simp length-append (omega arith)
@@ -86,15 +69,13 @@ module _ {S : Type 0} where
       go false z e = h
 
 module _ {S R : Type 0} (p : Sites S R) where
-  exchanged-length : (e : Event) (q : Option Request) (b : Part S) (r : ℕ → R) → HasRoom e q (length (b .windows)) → length (b .windows) ≤ 16 → length (exchanged p e q b r .part .windows) ≤ 16
-  exchanged-length e None b r k h = h
-  exchanged-length (Opening t l) (Some a) b r k h = replied-length (p .scripts) 0 None a _ b k h
-  exchanged-length (TurnOf i) (Some a) b r k h = replied-length (p .scripts) i (a .from) a _ b k h
-
   happens-length : (e : Event) (w : World S R) → length (w .part .windows) ≤ 16 → length (happens p e w .part .windows) ≤ 16
   happens-length e w h =
-      let same : length (w .part .windows) ≡ length (begun (p .scripts) e (w .part) .windows) = sym (begun-length (p .scripts) e (w .part)) in
-      exchanged-length e (needs (p .scripts) e (w .part)) (begun (p .scripts) e (w .part)) (w .servers) (subst (HasRoom e (needs (p .scripts) e (w .part))) same (needs-room (p .scripts) e (w .part))) (subst (λ n. n ≤ 16) same h)
+      let b : Part S = begun (p .scripts) e (w .part) in
+      let same : length (w .part .windows) ≡ length (b .windows) = sym (begun-length (p .scripts) e (w .part)) in
+      let few : length (b .windows) ≤ 16 = subst (λ n. n ≤ 16) same h in
+      exchanged-keeps (λ c. length (c .windows) ≤ 16) p e (needs (p .scripts) e (w .part)) b (w .servers) few
+      (λ i a m q. replied-length (p .scripts) i (whose e a) a m b (subst (HasRoom e (Some a)) same (subst (λ z. HasRoom e z (length (w .part .windows))) q (needs-room (p .scripts) e (w .part)))) few)
 
   abbrev Limited : List (Window S) → Type 0
   Limited xs = (length xs ≤ 16) × Every (λ x. length (x .words) ≤ 8) xs
@@ -103,7 +84,7 @@ module _ {S R : Type 0} (p : Sites S R) where
   step-limits x None h = h
   step-limits x (Some d) h = (
     happens-length (d .event) (x .world) (h .0),
-    every-happens (λ y. length (y .words) ≤ 8) p (λ y. left-limit (isSilence (y .own)) (y .words)) (λ m y k. k) hears-limit (d .event) (x .world) (λ a e r. omega arith) (h .1),
+    every-happens (λ y. length (y .words) ≤ 8) p (λ y. left-limit (isSilence (y .own)) (y .words)) (λ m y k. k) hears-limit (d .event) (x .world) (λ a r e. omega arith) (h .1),
   )
 
 module _ (S R : Type 0) where

@@ -4,12 +4,11 @@ use mathlib.Core.List.{List, [], _∷_, _++_, append-assoc, append-nil}
 use Prim.Native.Nat.{ℕ, zero, suc}
 use Rattle.std.specs.declared.option.Option.{Option}
 use Rattle.std.specs.declared.option.Option.the-variants.{Some, None}
-use Rattle.pages.specs.Sites.{Act, Idle, Asks, Says, Keeps, Looks, Opens, Told, Request, Reply, Sites}
-use Rattle.pages.specs.Browser.{Word, Window, Part, World, nth, change, actOf, stepped, owns, hears, fresh, acted, repliedTo, begunBy, needs, exchanged, happens, Event, Opening, TurnOf}
-use Rattle.pages.specs.Runs.{iterate, trace, step, after}
+use Rattle.pages.specs.Sites.{Act, Idle, Asks, Says, Keeps, Looks, Opens, Told, Request, Reply, Scripts, Sites}
+use Rattle.pages.specs.Browser.{Word, Window, Part, World, nth, change, actOf, stepped, owns, hears, fresh, acted, repliedTo, begunBy, begun, needs, exchanged, happens, Event, Opening, TurnOf}
+use Rattle.pages.specs.Runs.{iterate, trace}
 use Rattle.pages.specs.Views.{concat}
 use Rattle.pages.specs.Laws.{Every}
-use Rattle.pages.proofs.Places.{none-some}
 
 -- what each step keeps holds after any number of steps
 pub always : {W : Type 0} (P : W → Type 0) (go : W → W) → ((x : W) → P x → P (go x)) → (n : ℕ) (x : W) → P x → P (iterate go n x)
@@ -38,38 +37,48 @@ module _ {A : Type 0} (P : A → Type 0) where
   every-join [] y h k = (k, tt)
   every-join (x ∷ xs) y h k = (h .0, every-join xs y (h .1) k)
 
-  pub every-at : (i : ℕ) (xs : List A) (x : A) → nth i xs ≡ Some x → Every P xs → P x
-  unfolding Every nth
-  every-at i [] x e h = absurd (none-some x e)
-  every-at zero (y ∷ ys) x e h = subst P (cc) (h .0)
-  every-at (suc i) (y ∷ ys) x e h = every-at i ys x e (h .1)
+-- BEFORE A SERVER IS ASKED: what holds of the windows, if it stays where one runs, learns of its own doing or hears a word
+module _ {S : Type 0} (L : List (Window S) → Type 0) (c : Scripts S) (runs : (i : ℕ) (xs : List (Window S)) → L xs → L (change i (stepped c) xs)) (learns : (i : ℕ) (m : Told) (xs : List (Window S)) → L xs → L (change i (owns m) xs)) (hearing : (i t : ℕ) (m : Word) (xs : List (Window S)) → L xs → L (change i (hears t m) xs)) where
+  acted-keeps : (i s : ℕ) (a : Act) (b : Part S) → L (b .windows) → L (acted i s a b .windows)
+  acted-keeps i s Idle b h = h
+  acted-keeps i s (Asks t l d) b h = h
+  acted-keeps i s (Says j t d) b h = hearing j t _ (b .windows) h
+  acted-keeps i s (Keeps d) b h = h
+  acted-keeps i s Looks b h = learns i _ (b .windows) h
+  acted-keeps i s (Opens t l) b h = h
 
--- a property of windows that events keep, if a new window has it
-module _ {S R : Type 0} (P : Window S → Type 0) (p : Sites S R) (runs : (x : Window S) → P x → P (stepped (p .scripts) x)) (learns : (m : Told) (x : Window S) → P x → P (owns m x)) (hearing : (t : ℕ) (m : Word) (x : Window S) → P x → P (hears t m x)) where
-  every-acted : (i s : ℕ) (a : Act) (b : Part S) → Every P (b .windows) → Every P (acted i s a b .windows)
-  every-acted i s Idle b h = h
-  every-acted i s (Asks t l d) b h = h
-  every-acted i s (Says j t d) b h = every-change P j _ (hearing t _) (b .windows) h
-  every-acted i s (Keeps d) b h = h
-  every-acted i s Looks b h = every-change P i _ (learns _) (b .windows) h
-  every-acted i s (Opens t l) b h = h
+  begunBy-keeps : (i : ℕ) (f : Option (Window S)) (b : Part S) → L (b .windows) → L (begunBy c i f b .windows)
+  begunBy-keeps i None b h = h
+  begunBy-keeps i (Some x) b h = acted-keeps i (x .site) (actOf c x) _ (runs i (b .windows) h)
 
-  every-begun : (i : ℕ) (f : Option (Window S)) (b : Part S) → Every P (b .windows) → Every P (begunBy (p .scripts) i f b .windows)
-  every-begun i None b h = h
-  every-begun i (Some x) b h = every-acted i (x .site) (actOf (p .scripts) x) _ (every-change P i _ runs (b .windows) h)
+  pub begun-keeps : (e : Event) (b : Part S) → L (b .windows) → L (begun c e b .windows)
+  begun-keeps (Opening t l) b h = h
+  begun-keeps (TurnOf i) b h = begunBy-keeps i (nth i (b .windows)) b h
 
-  every-replied : (i : ℕ) (o : Option ℕ) (a : Request) (r : Reply) (b : Part S) → P (fresh (p .scripts) (a .site) (a .path) r) → Every P (b .windows) → Every P (repliedTo (p .scripts) i o a r b .windows)
-  every-replied i None a r b k h = every-join P (b .windows) _ h k
-  every-replied i (Some s) a r b k h = every-change P i _ (learns _) (b .windows) h
+-- in whose name a reply comes; in nobody's, a window is added
+abbrev pub whose : Event → Request → Option ℕ
+whose (Opening t h) a = None
+whose (TurnOf i) a = a .from
 
-  abbrev Begins-so : Option Request → Type 0
-  Begins-so q = (a : Request) → q ≡ Some a → (r : Reply) → P (fresh (p .scripts) (a .site) (a .path) r)
+-- ONCE A SERVER HAS REPLIED: what held before, and holds with every reply that may come
+pub exchanged-keeps :
+    {S R : Type 0} (P : Part S → Type 0) (p : Sites S R) (e : Event) (q : Option Request) (b : Part S) (r : ℕ → R) → P b → ((i : ℕ) (a : Request) (m : Reply) → q ≡ Some a → P (repliedTo (p .scripts) i (whose e a) a m b)) →
+    P (exchanged p e q b r .part)
+exchanged-keeps P p e None b r h k = h
+exchanged-keeps P p (Opening t l) (Some a) b r h k = k 0 a _ refl
+exchanged-keeps P p (TurnOf i) (Some a) b r h k = k i a _ refl
 
-  every-exchanged : (e : Event) (q : Option Request) (b : Part S) (r : ℕ → R) → Begins-so q → Every P (b .windows) → Every P (exchanged p e q b r .part .windows)
-  every-exchanged e None b r k h = h
-  every-exchanged (Opening t l) (Some a) b r k h = every-replied 0 None a _ b (k a refl _) h
-  every-exchanged (TurnOf i) (Some a) b r k h = every-replied i (a .from) a _ b (k a refl _) h
+-- BOTH: what all windows have, if a new one has it
+module _ {S R : Type 0} (P : Window S → Type 0) (p : Sites S R) where
+  every-replied : (i : ℕ) (o : Option ℕ) (a : Request) (r : Reply) (b : Part S) → ((m : Told) (x : Window S) → P x → P (owns m x)) → P (fresh (p .scripts) (a .site) (a .path) r) → Every P (b .windows) → Every P (repliedTo (p .scripts) i o a r b .windows)
+  every-replied i None a r b learns k h = every-join P (b .windows) _ h k
+  every-replied i (Some s) a r b learns k h = every-change P i _ (learns _) (b .windows) h
 
-  pub every-happens : (e : Event) (w : World S R) → Begins-so (needs (p .scripts) e (w .part)) → Every P (w .part .windows) → Every P (happens p e w .part .windows)
-  every-happens (Opening t l) w k h = every-exchanged (Opening t l) _ _ (w .servers) k h
-  every-happens (TurnOf i) w k h = every-exchanged (TurnOf i) _ _ (w .servers) k (every-begun i (nth i (w .part .windows)) (w .part) h)
+  pub every-happens :
+      ((x : Window S) → P x → P (stepped (p .scripts) x)) → ((m : Told) (x : Window S) → P x → P (owns m x)) → ((t : ℕ) (m : Word) (x : Window S) → P x → P (hears t m x)) →
+      (e : Event) (w : World S R) → ((a : Request) (r : Reply) → needs (p .scripts) e (w .part) ≡ Some a → P (fresh (p .scripts) (a .site) (a .path) r)) → Every P (w .part .windows) → Every P (happens p e w .part .windows)
+  every-happens runs learns hearing e w k h =
+      let b : Part S = begun (p .scripts) e (w .part) in
+      let before : Every P (b .windows) =
+      begun-keeps (Every P) (p .scripts) (λ i. every-change P i _ runs) (λ i m. every-change P i _ (learns m)) (λ i t m. every-change P i _ (hearing t m)) e (w .part) h in
+      exchanged-keeps (λ c. Every P (c .windows)) p e (needs (p .scripts) e (w .part)) b (w .servers) before (λ i a m q. every-replied i (whose e a) a m b learns (k a m q) before)

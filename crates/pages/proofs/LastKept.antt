@@ -12,6 +12,7 @@ use Rattle.pages.specs.Browser.{Window, Part, World, at, nth, actOf, acted, pa
 use Rattle.pages.specs.Runs.{iterate, trace, Due, Run, dueNow, eventBy, stepBy, step}
 use Rattle.pages.specs.Laws.{keptAct, keptOf, keptOn, keptNow, latest, KeptLast}
 use Rattle.pages.proofs.Places.{at-here, at-there}
+use Rattle.pages.proofs.Invariants.{whose, exchanged-keeps}
 
 abbrev orElse : {A : Type 0} → Option A → A → A
 orElse None y = y
@@ -29,9 +30,7 @@ module _ {S R : Type 0} (p : Sites S R) (v : ℕ) where
   replied-kept i (Some s) a r b = refl
 
   exchanged-kept : (e : Event) (q : Option Request) (b : Part S) (r : ℕ → R) → exchanged p e q b r .part .kept v ≡ b .kept v
-  exchanged-kept e None b r = refl
-  exchanged-kept (Opening t h) (Some a) b r = refl
-  exchanged-kept (TurnOf i) (Some a) b r = replied-kept i (a .from) a _ b
+  exchanged-kept e q b r = exchanged-keeps (λ c. c .kept v ≡ b .kept v) p e q b r refl (λ i a m z. replied-kept i (whose e a) a m b)
 
   keeps-kept : (s : ℕ) (d : Bytes) (k : ℕ → Bytes) (z : Bool) → eqb s v ≡ z → at s d k v ≡ orElse (cond z (Some d) None) (k v)
   keeps-kept s d k true e = subst (λ t. at s d k t ≡ d) (eqb-true s v e) (at-here s d k)

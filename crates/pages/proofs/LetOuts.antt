@@ -1,15 +1,15 @@
 -- What is let out, and that an asking page is told no more.
 use mathlib.Core.Path.{_≡_, refl, sym, _∙_, ap, subst}
-use mathlib.Core.Bool.{Bool, true, false, cond, _&&_, _||_, not, true≢false, false≢true}
-use mathlib.Core.List.{List, [], _∷_, _++_}
+use mathlib.Core.Bool.{Bool, true, false, cond, _&&_, _||_, not, false≢true}
+use mathlib.Core.List.{List, [], _∷_}
 use Prim.Native.Nat.{ℕ}
 use lib.Dec.{eqb}
 use borrow.Author.Tests.{eqb-true, eqb-false, eq-eqb, ne-eqb}
 use Rattle.std.specs.declared.option.Option.{Option}
 use Rattle.std.specs.declared.option.Option.the-variants.{Some, None}
-use Rattle.pages.specs.Sites.{Bytes, Act, Idle, Asks, Says, Keeps, Looks, Opens, Told, Answer, Barred, Request, Reply, Unreadable, Readable, Sites}
-use Rattle.pages.specs.Browser.{Window, World, nth, change, actOf, stepped, owns, answered, acted, with-windows, needsBy, begunBy, needsOf, exchanged, happens, Event, Opening, TurnOf}
-use Rattle.pages.specs.Outs.{What, Asked, Said, Opened, Let, Out, out, isOf, letBy, outsBy, outsOf, replyTo, outs, keepOnly}
+use Rattle.pages.specs.Sites.{Bytes, Act, Idle, Asks, Says, Keeps, Looks, Opens, Answer, Barred, Reply, Unreadable, Readable, Sites}
+use Rattle.pages.specs.Browser.{Window, World, nth, change, actOf, stepped, owns, answered, acted, with-windows, needsBy, begunBy, needsOf, exchanged, happens, TurnOf}
+use Rattle.pages.specs.Outs.{What, Asked, Said, Let, Out, out, isOf, letBy, outsBy, outsOf, replyTo, outs, keepOnly}
 use Rattle.pages.specs.Laws.{Every, asking, MayLetOut, asked, said, opened, let-see, toldBy, LetOutOnly, ElseNothing, ToldIsLetOut}
 use Rattle.pages.proofs.Places.{nth-change}
 

@@ -100,7 +100,7 @@ module _ {S R : Type 0} (p : Sites S R) where
   happens-named : (e : Event) (w : World S R) → NamedEvent (p .scripts .sites) e → Every (λ y. y .site < p .scripts .sites) (w .part .windows) → Every (λ y. y .site < p .scripts .sites) (happens p e w .part .windows)
   happens-named e w k h =
       every-happens (λ y. y .site < p .scripts .sites) p (λ y l. l) (λ m y l. l) (hears-named (p .scripts .sites)) e w
-      (λ a q r. subst (NamedRequest (p .scripts .sites)) q (needs-named (p .scripts) e (w .part) k)) h
+      (λ a r q. subst (NamedRequest (p .scripts .sites)) q (needs-named (p .scripts) e (w .part) k)) h
 
   step-named : (x : Run S R) (d : Option Due) → NamedDue (p .scripts .sites) d → Named x → Named (stepBy p x d)
   step-named x None k h = h

@@ -9,11 +9,11 @@ use Rattle.std.specs.declared.option.Option.{Option}
 use Rattle.std.specs.declared.option.Option.the-variants.{Some, None}
 use Rattle.pages.specs.Sites.{Act, Idle, Asks, Says, Keeps, Looks, Opens, Request, Reply, Sites}
 use Rattle.pages.specs.Browser.{Word, Window, Part, World, nth, change, isSilence, otherWords, actOf, stepped, owns, joined, hears, fresh, acted, pageNeeded, repliedTo, with-windows, begunBy, begun, needs, exchanged, happens, Event, Opening, TurnOf}
-use Rattle.pages.specs.Runs.{trace, Due, Run, dueNow, eventBy, stepBy, step, after, begin}
+use Rattle.pages.specs.Runs.{trace, Due, Run, dueNow, eventBy, stepBy, step, begin}
 use Rattle.pages.specs.Views.{concat}
 use Rattle.pages.specs.Laws.{accepts, deliveredBy, deliveredOf, deliveredOn, deliveredNow, WordsTruly}
 use Rattle.pages.proofs.Places.{none-some, nth-change, nth-change-other}
-use Rattle.pages.proofs.Invariants.{history}
+use Rattle.pages.proofs.Invariants.{history, whose, exchanged-keeps}
 
 -- the words that wait for a window are the last of those that were said to it; to one that isn't there nothing was said
 abbrev Truly : {S : Type 0} → List Word → Option (Window S) → Type 0
@@ -81,9 +81,7 @@ module _ {S R : Type 0} (p : Sites S R) (j : ℕ) where
   replied-truly said i (Some s) a r b h = change-truly said j i (owns _) (λ y k. k) (b .windows) h
 
   exchanged-truly : (said : List Word) (e : Event) (q : Option Request) (b : Part S) (r : ℕ → R) → Truly said (nth j (b .windows)) → Truly said (nth j (exchanged p e q b r .part .windows))
-  exchanged-truly said e None b r h = h
-  exchanged-truly said (Opening t l) (Some a) b r h = replied-truly said 0 None a _ b h
-  exchanged-truly said (TurnOf i) (Some a) b r h = replied-truly said i (a .from) a _ b h
+  exchanged-truly said e q b r h = exchanged-keeps (λ c. Truly said (nth j (c .windows))) p e q b r h (λ i a m z. replied-truly said i (whose e a) a m b h)
 
   begun-truly : (said : List Word) (i : ℕ) (f : Option (Window S)) (w : World S R) → Truly said (nth j (w .part .windows)) → Truly (said ++ deliveredOf p j i f w) (nth j (begunBy (p .scripts) i f (w .part) .windows))
   begun-truly said i None w h = same-truly said (nth j (w .part .windows)) h
