@@ -31,7 +31,7 @@ module _ {S : Type 0} where
   page-room e t h b = go (ltb (length (b .windows)) mostWindows) refl
     where
       go : (z : Bool) → ltb (length (b .windows)) mostWindows ≡ z → HasRoom e (cond z (Some (record { site = t; from = None; token = b .tokens t; path = h; body = [] })) None) (length (b .windows))
-      go true m = λ q. ltb-true (length (b .windows)) mostWindows m
+      go true m = λ q. omega (arith, ltb-true (length (b .windows)) mostWindows m)
       go false m = tt
 
   act-room : (i s : ℕ) (a : Act) (b : Part S) → HasRoom (TurnOf i) (needsBy s a b) (length (b .windows))
@@ -64,7 +64,7 @@ module _ {S : Type 0} where
   hears-limit t m x h = go (eqb (x .site) t) (ltb (length (x .words)) mostWords) refl
     where
       go : (c z : Bool) → ltb (length (x .words)) mostWords ≡ z → length (cond (c && z) (joined m x) x .words) ≤ 8
-      go true true e = let room : length (x .words) < 8 = ltb-true (length (x .words)) mostWords e in simp length-append (omega arith)
+      go true true e = let room : length (x .words) < mostWords = ltb-true (length (x .words)) mostWords e in simp length-append (omega arith)
       go true false e = h
       go false z e = h
 

@@ -1,7 +1,6 @@
 -- The limits, at the types that the call names.
-use mathlib.Core.Path.{refl}
 use Rattle.pages.proofs.Bounds.{limits}
 use Rattle.pages.proofs.moments.limits_hold.Needs as need
 
 pub returns : need.returns
-returns g c = record { limits = limits _ _; result = refl }
+returns g c = limits _ _

@@ -1,7 +1,6 @@
 -- The words that wait, at the types that the call names.
-use mathlib.Core.Path.{refl}
 use Rattle.pages.proofs.TrueWords.{words-truly}
 use Rattle.pages.proofs.moments.words_are_true.Needs as need
 
 pub returns : need.returns
-returns g c = record { words = words-truly _ _; result = refl }
+returns g c = words-truly _ _
