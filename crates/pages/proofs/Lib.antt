@@ -6,3 +6,9 @@ pub mod Acts
 pub mod Steps
 pub mod Whole
 pub mod Table
+pub mod LetOuts
+pub mod Invariants
+pub mod Bounds
+pub mod NamedSites
+pub mod LastKept
+pub mod TrueWords
