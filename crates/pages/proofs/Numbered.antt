@@ -86,3 +86,16 @@ module _ {S : Type 0} where
   -- a window more has the next number
   pub ofSite-join : (v : ℕ) (xs : List (Window S)) (y : Window S) → ofSite v 0 (xs ++ (y ∷ [])) ≡ ofSite v 0 xs ++ cond (eqb (y .site) v) ((length xs, y) ∷ []) []
   ofSite-join v xs y = join-at v 0 (length xs) xs y (omega arith)
+
+  -- a window of site s is changed
+  pub ofSite-own :
+      (v i s : ℕ) (f : Window S → Window S) (xs : List (Window S)) → KeepsSite f → Sited i s xs → (b : Bool) → eqb s v ≡ b →
+      ofSite v 0 (change i f xs) ≡ cond b (changeAt i f (ofSite v 0 xs)) (ofSite v 0 xs)
+  ofSite-own v i s f xs k h true e = ofSite-at v i f xs k
+  ofSite-own v i s f xs k h false e = ofSite-same v 0 i f xs k (λ x at-x t. absurd (true≢false (sym t ∙ ap (λ z. eqb z v) (h x at-x) ∙ e)))
+
+  -- a word for a window of another site, or for none
+  pub ofSite-unheard :
+      (v j t : ℕ) (m : Word) (xs : List (Window S)) → ((x : Window S) → nth j xs ≡ Some x → eqb (x .site) v ≡ true → eqb (x .site) t ≡ false) →
+      ofSite v 0 (change j (hears t m) xs) ≡ ofSite v 0 xs
+  ofSite-unheard v j t m xs h = ofSite-same v 0 j (hears t m) xs (hears-site t m) (λ x at-x e. hears-not t m x (h x at-x e))

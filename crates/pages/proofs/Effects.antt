@@ -1,0 +1,87 @@
+-- What is of a site after an event follows from what was of it and from what the event does to it.
+use mathlib.Core.Path.{_≡_, refl, sym, _∙_, ap, ap₂, subst}
+use mathlib.Core.Bool.{Bool, true, false, cond, true≢false}
+use mathlib.Core.List.{List, [], _∷_, _++_}
+use Prim.Native.Nat.{ℕ, zero, suc, _<_}
+use lib.Dec.{eqb, ltb}
+use lib.ListN.{length}
+use borrow.Author.Tests.{eqb-true, eqb-false, eq-eqb, ne-eqb, ltb-true}
+use Rattle.std.specs.declared.option.Option.{Option}
+use Rattle.std.specs.declared.option.Option.the-variants.{Some, None}
+use Rattle.pages.specs.Sites.{Bytes, Act, Idle, Asks, Says, Keeps, Looks, Opens, Told, Kept, Request, Reply, Served, Sites}
+use Rattle.pages.specs.Browser.{Word, Window, Part, World, mostWindows, at, nth, change, actOf, stepped, owns, hears, fresh, answered, tokenAfter, with-windows, acted, needsBy, withReply, exchanged, happens, Event, Opening, TurnOf}
+use Rattle.pages.specs.Outs.{isOf}
+use Rattle.pages.specs.Runs.{Run, Due, iterate, trace, dueNow, eventBy, stepBy, step, after}
+use Rattle.pages.specs.Views.{View, viewOf, ofSite, Effect, Runs, Learns, Finds, Hears, Stores, Serves, Begins, changeAt, onlyFor, opening, servedTo, with-own, with-served, takes, takesAll, effectsBy, effectsOf, effects, effectsOn, effectsNow, concat}
+use Rattle.pages.specs.Laws.{asking, fetching, running, ViewLaw, HistoryLaw, Foreign, nothing, asks, says, opens, TouchedOnly}
+use Rattle.pages.proofs.Places.{some-one, nth-change, isOf-change, change-length, at-here, at-there, Sited, sited-this, hears-site, hears-not}
+use Rattle.pages.proofs.Numbered.{KeepsSite, ofSite-same, ofSite-at, ofSite-join, ofSite-own, ofSite-unheard}
+
+at-this : {A : Type 0} (t v : ℕ) (a : A) (f : ℕ → A) → t ≡ v → at t a f v ≡ a
+at-this t v a f e = rw (eq-eqb v t (sym e))
+
+module _ {S R : Type 0} where
+  takesAll-join : (p : Sites S R) (v : ℕ) (es fs : List Effect) (x : View S R) → takesAll p v (es ++ fs) x ≡ takesAll p v fs (takesAll p v es x)
+  unfolding takesAll
+  takesAll-join p v [] fs x = refl
+  takesAll-join p v (e ∷ es) fs x = takesAll-join p v es fs (takes p v e x)
+
+  -- the world, with other windows
+  abbrev showing : List (Window S) → World S R → World S R
+  showing xs w = record { part = with-windows xs (w .part); servers = w .servers }
+
+  -- and where the server of q's site has replied to q
+  abbrev replied : Sites S R → Request → List (Window S) → World S R → World S R
+  replied p q xs w = record { part = withReply q (p .serve q (w .servers (q .site)) .reply) xs (w .part); servers = at (q .site) (p .serve q (w .servers (q .site)) .state) (w .servers) }
+
+  -- THE WINDOWS ALONE ARE CHANGED: one of site s, which is an effect for s
+  own-effect :
+      (p : Sites S R) (v i s : ℕ) (f : Window S → Window S) (e : Effect) (w : World S R) → KeepsSite f → Sited i s (w .part .windows) →
+      (s ≡ v → takes p v e (viewOf v w) ≡ with-own (changeAt i f (ofSite v 0 (w .part .windows))) (viewOf v w)) →
+      viewOf v (showing (change i f (w .part .windows)) w) ≡ takesAll p v (onlyFor v s (e ∷ [])) (viewOf v w)
+  unfolding takesAll
+  own-effect p v i s f e w k h t = go (eqb s v) refl
+    where
+      go : (b : Bool) → eqb s v ≡ b → viewOf v (showing (change i f (w .part .windows)) w) ≡ takesAll p v (cond b (e ∷ []) []) (viewOf v w)
+      go true d = ap (λ xs. with-own xs (viewOf v w)) (ofSite-own v i s f (w .part .windows) k h true d) ∙ sym (t (eqb-true s v d))
+      go false d = ap (λ xs. with-own xs (viewOf v w)) (ofSite-own v i s f (w .part .windows) k h false d)
+
+  -- a word is said to window j, if it is of site t
+  word-effect :
+      (p : Sites S R) (v j t : ℕ) (m : Word) (w : World S R) →
+      viewOf v (showing (change j (hears t m) (w .part .windows)) w) ≡ takesAll p v (onlyFor v t (cond (isOf t (nth j (w .part .windows))) (Hears j (m .from) (m .what) ∷ []) [])) (viewOf v w)
+  unfolding takesAll
+  word-effect p v j t m w = go (eqb t v) (isOf t (nth j (w .part .windows))) refl refl
+    where
+      go :
+          (b c : Bool) → eqb t v ≡ b → isOf t (nth j (w .part .windows)) ≡ c →
+          viewOf v (showing (change j (hears t m) (w .part .windows)) w) ≡ takesAll p v (cond b (cond c (Hears j (m .from) (m .what) ∷ []) []) []) (viewOf v w)
+      go true true e o =
+          ap (λ xs. with-own xs (viewOf v w))
+          (ofSite-at v j (hears t m) (w .part .windows) (hears-site t m) ∙ ap (λ z. changeAt j (hears z m) (ofSite v 0 (w .part .windows))) (eqb-true t v e))
+      go true false e o = ap (λ xs. with-own xs (viewOf v w)) (ofSite-unheard v j t m (w .part .windows) (λ x at-x h. ap (isOf t) (sym at-x) ∙ o))
+      go false c e o = ap (λ xs. with-own xs (viewOf v w)) (ofSite-unheard v j t m (w .part .windows) (λ x at-x h. ne-eqb (x .site) t (λ d. eqb-false t v e (sym d ∙ eqb-true (x .site) v h))))
+
+  -- A SERVER IS ASKED, which is an effect for its site
+  served-here : (p : Sites S R) (v : ℕ) (q : Request) (xs : List (Window S)) (w : World S R) → q .site ≡ v → viewOf v (replied p q xs w) ≡ with-served (ofSite v 0 xs) (p .serve q (w .servers (q .site))) (viewOf v w)
+  served-here p v q xs w e =
+      ap₂ (λ k r. record { windows = ofSite v 0 xs; token = k; kept = w .part .kept v; server = r })
+      (at-this (q .site) v _ (w .part .tokens) e ∙ ap (λ z. tokenAfter (p .serve q (w .servers (q .site)) .reply) (w .part .tokens z)) e)
+      (at-this (q .site) v _ (w .servers) e)
+
+  served-else : (p : Sites S R) (v : ℕ) (q : Request) (xs : List (Window S)) (w : World S R) → eqb (q .site) v ≡ false → viewOf v (replied p q xs w) ≡ viewOf v (showing xs w)
+  served-else p v q xs w n =
+      let other : eqb v (q .site) ≡ false = ne-eqb v (q .site) (λ e. eqb-false (q .site) v n (sym e)) in
+      ap₂ (λ k r. record { windows = ofSite v 0 xs; token = k; kept = w .part .kept v; server = r })
+      (at-there (q .site) _ (w .part .tokens) v other)
+      (at-there (q .site) _ (w .servers) v other)
+
+  ask-effect : (p : Sites S R) (v s t : ℕ) (h d : Bytes) (w : World S R) → viewOf v (replied p (asking w s t h d) (w .part .windows) w) ≡ takesAll p v (onlyFor v t (Serves s h d ∷ [])) (viewOf v w)
+  unfolding takesAll
+  ask-effect p v s t h d w = go (eqb t v) refl
+    where
+      go : (b : Bool) → eqb t v ≡ b → viewOf v (replied p (asking w s t h d) (w .part .windows) w) ≡ takesAll p v (cond b (Serves s h d ∷ []) []) (viewOf v w)
+      go true e =
+          served-here p v (asking w s t h d) (w .part .windows) w (eqb-true t v e)
+          ∙ ap (λ z. with-served (ofSite v 0 (w .part .windows)) (p .serve (asking w s z h d) (w .servers z)) (viewOf v w)) (eqb-true t v e)
+      go false e = served-else p v (asking w s t h d) (w .part .windows) w e
