@@ -9,7 +9,7 @@ use borrow.Author.Tests.{eqb-true, eqb-false, eq-eqb, ne-eqb, ltb-true}
 use Rattle.std.specs.declared.option.Option.{Option}
 use Rattle.std.specs.declared.option.Option.the-variants.{Some, None}
 use Rattle.pages.specs.Sites.{Bytes, Act, Idle, Asks, Says, Keeps, Looks, Opens, Told, Kept, Request, Reply, Served, Sites}
-use Rattle.pages.specs.Browser.{Word, Window, Part, World, mostWindows, at, nth, change, actOf, stepped, owns, hears, fresh, answered, tokenAfter, with-windows, acted, needsBy, withReply, exchanged, happens, Event, Opening, TurnOf}
+use Rattle.pages.specs.Browser.{Word, Window, Part, World, mostWindows, at, nth, change, actOf, stepped, owns, hears, fresh, answered, tokenAfter, with-windows, acted, pageNeeded, needsBy, withReply, exchanged, happens, Event, Opening, TurnOf}
 use Rattle.pages.specs.Outs.{isOf}
 use Rattle.pages.specs.Runs.{Run, Due, iterate, trace, dueNow, eventBy, stepBy, step, after}
 use Rattle.pages.specs.Views.{View, viewOf, ofSite, Effect, Runs, Learns, Finds, Hears, Stores, Serves, Begins, changeAt, onlyFor, opening, servedTo, with-own, with-served, takes, takesAll, effectsBy, effectsOf, effects, effectsOn, effectsNow, concat}
@@ -85,3 +85,68 @@ module _ {S R : Type 0} where
           served-here p v (asking w s t h d) (w .part .windows) w (eqb-true t v e)
           ∙ ap (λ z. with-served (ofSite v 0 (w .part .windows)) (p .serve (asking w s z h d) (w .servers z)) (viewOf v w)) (eqb-true t v e)
       go false e = served-else p v (asking w s t h d) (w .part .windows) w e
+
+  -- the window that is opened
+  abbrev begins : Sites S R → ℕ → Bytes → World S R → Window S
+  begins p t h w = fresh (p .scripts) t h (p .serve (fetching w t h) (w .servers t) .reply)
+
+  -- A WINDOW IS OPENED, which is an effect for its site
+  fresh-effect :
+      (p : Sites S R) (v t : ℕ) (h : Bytes) (w : World S R) →
+      viewOf v (replied p (fetching w t h) (w .part .windows ++ (begins p t h w ∷ [])) w) ≡ takesAll p v (onlyFor v t (Begins (length (w .part .windows)) h ∷ [])) (viewOf v w)
+  unfolding takesAll
+  fresh-effect p v t h w = go (eqb t v) refl
+    where
+      go :
+          (b : Bool) → eqb t v ≡ b →
+          viewOf v (replied p (fetching w t h) (w .part .windows ++ (begins p t h w ∷ [])) w) ≡ takesAll p v (cond b (Begins (length (w .part .windows)) h ∷ []) []) (viewOf v w)
+      go true e =
+          served-here p v (fetching w t h) (w .part .windows ++ (begins p t h w ∷ [])) w (eqb-true t v e)
+          ∙ ap (λ xs. with-served xs (p .serve (fetching w t h) (w .servers t)) (viewOf v w)) (ofSite-join v (w .part .windows) (begins p t h w) true e)
+          ∙ ap (λ z. with-served (ofSite v 0 (w .part .windows) ++ ((length (w .part .windows), begins p z h w) ∷ [])) (p .serve (fetching w z h) (w .servers z)) (viewOf v w)) (eqb-true t v e)
+      go false e =
+          served-else p v (fetching w t h) (w .part .windows ++ (begins p t h w ∷ [])) w e
+          ∙ ap (λ xs. with-own xs (viewOf v w)) (ofSite-join v (w .part .windows) (begins p t h w) false e)
+
+  -- the same where there is room, and else nothing: for any event that ends so
+  opening-effect :
+      (p : Sites S R) (v t : ℕ) (h : Bytes) (w : World S R) (e : Event) → exchanged p e (Some (fetching w t h)) (w .part) (w .servers) ≡ replied p (fetching w t h) (w .part .windows ++ (begins p t h w ∷ [])) w →
+      viewOf v (exchanged p e (pageNeeded t h (w .part)) (w .part) (w .servers)) ≡ takesAll p v (opening v t h (w .part)) (viewOf v w)
+  unfolding takesAll
+  opening-effect p v t h w e same = go (ltb (length (w .part .windows)) mostWindows)
+    where
+      nobody : (b : Bool) → viewOf v w ≡ takesAll p v (cond b [] []) (viewOf v w)
+      nobody true = refl
+      nobody false = refl
+
+      go :
+          (b : Bool) →
+          viewOf v (exchanged p e (cond b (Some (fetching w t h)) None) (w .part) (w .servers)) ≡ takesAll p v (onlyFor v t (cond b (Begins (length (w .part .windows)) h ∷ []) [])) (viewOf v w)
+      go true = ap (viewOf v) same ∙ fresh-effect p v t h w
+      go false = nobody (eqb t v)
+
+  -- WHAT AN ACT DOES, one case for each: window i of site s does it, and its script has run
+  abbrev does : Sites S R → ℕ → ℕ → Act → World S R → World S R
+  does p i s a w = exchanged p (TurnOf i) (needsBy s a (w .part)) (acted i s a (w .part)) (w .servers)
+
+  keep-effect : (p : Sites S R) (v s : ℕ) (d : Bytes) (w : World S R) (b : Bool) → eqb s v ≡ b → viewOf v (does p 0 s (Keeps d) w) ≡ takesAll p v (cond b (Stores d ∷ []) []) (viewOf v w)
+  unfolding takesAll
+  keep-effect p v s d w true e = ap (λ k. record { windows = ofSite v 0 (w .part .windows); token = w .part .tokens v; kept = k; server = w .servers v }) (at-this s v d (w .part .kept) (eqb-true s v e))
+  keep-effect p v s d w false e =
+      ap (λ k. record { windows = ofSite v 0 (w .part .windows); token = w .part .tokens v; kept = k; server = w .servers v })
+      (at-there s d (w .part .kept) v (ne-eqb v s (λ c. eqb-false s v e (sym c))))
+
+  act-effects : (p : Sites S R) (v i s : ℕ) (w : World S R) → Sited i s (w .part .windows) → (a : Act) → viewOf v (does p i s a w) ≡ takesAll p v (effectsBy p v i s a w) (viewOf v w)
+  unfolding takesAll
+  act-effects p v i s w at-i Idle = refl
+  act-effects p v i s w at-i (Asks t h d) =
+      let told : Told = answered s t (p .serve (asking w s t h d) (w .servers t) .reply) in
+      own-effect p v i s (owns told) (Learns i told) (replied p (asking w s t h d) (w .part .windows) w) (λ x. refl) at-i (λ e. refl)
+      ∙ ap (takesAll p v (onlyFor v s (Learns i told ∷ []))) (ask-effect p v s t h d w)
+      ∙ sym (takesAll-join p v (onlyFor v t (Serves s h d ∷ [])) (onlyFor v s (Learns i told ∷ [])) (viewOf v w))
+  act-effects p v i s w at-i (Says j t d) = word-effect p v j t (record { from = s; what = d }) w
+  act-effects p v i s w at-i (Keeps d) = keep-effect p v s d w (eqb s v) refl
+  act-effects p v i s w at-i Looks =
+      own-effect p v i s (owns (Kept (w .part .kept s))) (Finds i) w (λ x. refl) at-i
+      (λ e. ap (λ z. with-own (changeAt i (owns (Kept (w .part .kept z))) (ofSite v 0 (w .part .windows))) (viewOf v w)) (sym e))
+  act-effects p v i s w at-i (Opens t h) = opening-effect p v t h w (TurnOf i) refl

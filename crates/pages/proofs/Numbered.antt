@@ -1,7 +1,7 @@
 -- The windows of a site with their numbers: what a change of one window, and a window more, make of them.
 use mathlib.Core.Path.{_≡_, refl, sym, _∙_, ap, subst}
 use mathlib.Core.Bool.{Bool, true, false, cond, true≢false}
-use mathlib.Core.List.{List, [], _∷_, _++_}
+use mathlib.Core.List.{List, [], _∷_, _++_, append-nil}
 use Prim.Native.Nat.{ℕ, zero, suc, _+_, _<_}
 use native.Mathlib.Nat.{add-zero, add-suc}
 use native.Mathlib.Omega.{arith}
@@ -83,9 +83,13 @@ module _ {S : Type 0} where
       ap (before (eqb (x .site) v) k x) (join-at v (suc k) n xs y (omega arith))
       ∙ before-join (eqb (x .site) v) k x (ofSite v (suc k) xs) (before (eqb (y .site) v) n y [])
 
-  -- a window more has the next number
-  pub ofSite-join : (v : ℕ) (xs : List (Window S)) (y : Window S) → ofSite v 0 (xs ++ (y ∷ [])) ≡ ofSite v 0 xs ++ cond (eqb (y .site) v) ((length xs, y) ∷ []) []
-  ofSite-join v xs y = join-at v 0 (length xs) xs y (omega arith)
+  -- a window more, of this site or of another, has the next number
+  pub ofSite-join : (v : ℕ) (xs : List (Window S)) (y : Window S) → (b : Bool) → eqb (y .site) v ≡ b → ofSite v 0 (xs ++ (y ∷ [])) ≡ cond b (ofSite v 0 xs ++ ((length xs, y) ∷ [])) (ofSite v 0 xs)
+  ofSite-join v xs y b e = join-at v 0 (length xs) xs y (omega arith) ∙ ap (λ c. ofSite v 0 xs ++ before c (length xs) y []) e ∙ go b
+    where
+      go : (c : Bool) → ofSite v 0 xs ++ before c (length xs) y [] ≡ cond c (ofSite v 0 xs ++ ((length xs, y) ∷ [])) (ofSite v 0 xs)
+      go true = refl
+      go false = append-nil (ofSite v 0 xs)
 
   -- a window of site s is changed
   pub ofSite-own :
