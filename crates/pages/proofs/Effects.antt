@@ -9,12 +9,13 @@ use borrow.Author.Tests.{eqb-true, eqb-false, eq-eqb, ne-eqb, ltb-true}
 use Rattle.std.specs.declared.option.Option.{Option}
 use Rattle.std.specs.declared.option.Option.the-variants.{Some, None}
 use Rattle.pages.specs.Sites.{Bytes, Act, Idle, Asks, Says, Keeps, Looks, Opens, Told, Kept, Request, Reply, Served, Sites}
-use Rattle.pages.specs.Browser.{Word, Window, Part, World, mostWindows, at, nth, change, actOf, stepped, owns, hears, fresh, answered, tokenAfter, with-windows, acted, pageNeeded, needsBy, withReply, exchanged, happens, Event, Opening, TurnOf}
+use Rattle.pages.specs.Browser.{Word, Window, Part, World, mostWindows, at, nth, change, actOf, stepped, owns, hears, fresh, answered, tokenAfter, with-windows, acted, pageNeeded, needsBy, needsOf, begunBy, withReply, exchanged, happens, Event, Opening, TurnOf}
 use Rattle.pages.specs.Outs.{isOf}
 use Rattle.pages.specs.Runs.{Run, Due, iterate, trace, dueNow, eventBy, stepBy, step, after}
 use Rattle.pages.specs.Views.{View, viewOf, ofSite, Effect, Runs, Learns, Finds, Hears, Stores, Serves, Begins, changeAt, onlyFor, opening, servedTo, with-own, with-served, takes, takesAll, effectsBy, effectsOf, effects, effectsOn, effectsNow, concat}
 use Rattle.pages.specs.Laws.{asking, fetching, running, ViewLaw, HistoryLaw, Foreign, nothing, asks, says, opens, TouchedOnly}
 use Rattle.pages.proofs.Places.{some-one, nth-change, isOf-change, change-length, at-here, at-there, Sited, sited-this, hears-site, hears-not}
+use Rattle.pages.proofs.Turns.{showing, replied, afterRun, does, turn-is}
 use Rattle.pages.proofs.Numbered.{KeepsSite, ofSite-same, ofSite-at, ofSite-join, ofSite-own, ofSite-unheard}
 
 at-this : {A : Type 0} (t v : ℕ) (a : A) (f : ℕ → A) → t ≡ v → at t a f v ≡ a
@@ -25,14 +26,6 @@ module _ {S R : Type 0} where
   unfolding takesAll
   takesAll-join p v [] fs x = refl
   takesAll-join p v (e ∷ es) fs x = takesAll-join p v es fs (takes p v e x)
-
-  -- the world, with other windows
-  abbrev showing : List (Window S) → World S R → World S R
-  showing xs w = record { part = with-windows xs (w .part); servers = w .servers }
-
-  -- and where the server of q's site has replied to q
-  abbrev replied : Sites S R → Request → List (Window S) → World S R → World S R
-  replied p q xs w = record { part = withReply q (p .serve q (w .servers (q .site)) .reply) xs (w .part); servers = at (q .site) (p .serve q (w .servers (q .site)) .state) (w .servers) }
 
   -- THE WINDOWS ALONE ARE CHANGED: one of site s, which is an effect for s
   own-effect :
@@ -126,9 +119,6 @@ module _ {S R : Type 0} where
       go false = nobody (eqb t v)
 
   -- WHAT AN ACT DOES, one case for each: window i of site s does it, and its script has run
-  abbrev does : Sites S R → ℕ → ℕ → Act → World S R → World S R
-  does p i s a w = exchanged p (TurnOf i) (needsBy s a (w .part)) (acted i s a (w .part)) (w .servers)
-
   keep-effect : (p : Sites S R) (v s : ℕ) (d : Bytes) (w : World S R) (b : Bool) → eqb s v ≡ b → viewOf v (does p 0 s (Keeps d) w) ≡ takesAll p v (cond b (Stores d ∷ []) []) (viewOf v w)
   unfolding takesAll
   keep-effect p v s d w true e = ap (λ k. record { windows = ofSite v 0 (w .part .windows); token = w .part .tokens v; kept = k; server = w .servers v }) (at-this s v d (w .part .kept) (eqb-true s v e))
@@ -150,3 +140,48 @@ module _ {S R : Type 0} where
       own-effect p v i s (owns (Kept (w .part .kept s))) (Finds i) w (λ x. refl) at-i
       (λ e. ap (λ z. with-own (changeAt i (owns (Kept (w .part .kept z))) (ofSite v 0 (w .part .windows))) (viewOf v w)) (sym e))
   act-effects p v i s w at-i (Opens t h) = opening-effect p v t h w (TurnOf i) refl
+
+  -- A TURN: the script runs, then it acts
+  run-effect : (p : Sites S R) (v i : ℕ) (x : Window S) (w : World S R) → nth i (w .part .windows) ≡ Some x → viewOf v (afterRun p i w) ≡ takesAll p v (onlyFor v (x .site) (Runs i ∷ [])) (viewOf v w)
+  run-effect p v i x w at-x = own-effect p v i (x .site) (stepped (p .scripts)) (Runs i) w (λ y. refl) (sited-this i (x .site) (w .part .windows) x at-x refl) (λ e. refl)
+
+  -- the run changes no window's site and opens none, so the act's effects are those that it has before
+  effects-after : (p : Sites S R) (v i s : ℕ) (w : World S R) (a : Act) → effectsBy p v i s a (afterRun p i w) ≡ effectsBy p v i s a w
+  effects-after p v i s w Idle = refl
+  effects-after p v i s w (Asks t h d) = refl
+  effects-after p v i s w (Says j t d) = ap (λ b. onlyFor v t (cond b (Hears j s d ∷ []) [])) (isOf-change t i j (stepped (p .scripts)) (w .part .windows) (λ x. refl))
+  effects-after p v i s w (Keeps d) = refl
+  effects-after p v i s w Looks = refl
+  effects-after p v i s w (Opens t h) = ap (λ n. onlyFor v t (cond (ltb n mostWindows) (Begins n h ∷ []) [])) (change-length i (stepped (p .scripts)) (w .part .windows))
+
+  turn-effects : (p : Sites S R) (v i : ℕ) (w : World S R) (f : Option (Window S)) → nth i (w .part .windows) ≡ f → viewOf v (happens p (TurnOf i) w) ≡ takesAll p v (effectsOf p v i f w) (viewOf v w)
+  unfolding takesAll
+  turn-effects p v i w None at-x = ap (λ f. viewOf v (exchanged p (TurnOf i) (needsOf (p .scripts) f (w .part)) (begunBy (p .scripts) i f (w .part)) (w .servers))) at-x
+  turn-effects p v i w (Some x) at-x =
+      let s : ℕ = x .site in
+      let a : Act = actOf (p .scripts) x in
+      let sited : Sited i s (running p i w) = sited-this i s (running p i w) (stepped (p .scripts) x) (nth-change i (stepped (p .scripts)) (w .part .windows) x at-x) refl in
+      ap (viewOf v) (turn-is p i x w at-x a refl)
+      ∙ act-effects p v i s (afterRun p i w) sited a
+      ∙ ap (λ es. takesAll p v es (viewOf v (afterRun p i w))) (effects-after p v i s w a)
+      ∙ ap (takesAll p v (effectsBy p v i s a w)) (run-effect p v i x w at-x)
+      ∙ sym (takesAll-join p v (onlyFor v s (Runs i ∷ [])) (effectsBy p v i s a w) (viewOf v w))
+
+module _ (S R : Type 0) where
+  pub view-law : ViewLaw S R
+  view-law p v (Opening t h) w = opening-effect p v t h w (Opening t h) refl
+  view-law p v (TurnOf i) w = turn-effects p v i w (nth i (w .part .windows)) refl
+
+  -- one moment of a run
+  moment : (p : Sites S R) (v : ℕ) (x : Run S R) (d : Option Due) → viewOf v (stepBy p x d .world) ≡ takesAll p v (effectsOn p v (x .world) (eventBy d)) (viewOf v (x .world))
+  unfolding takesAll
+  moment p v x None = refl
+  moment p v x (Some d) = view-law p v (d .event) (x .world)
+
+  pub history-law : HistoryLaw S R
+  unfolding iterate trace concat takesAll
+  history-law p v zero x = refl
+  history-law p v (suc n) x =
+      history-law p v n (step p x)
+      ∙ ap (takesAll p v (concat (trace (step p) (effectsNow p v) n (step p x)))) (moment p v x (dueNow x))
+      ∙ sym (takesAll-join p v (effectsNow p v x) (concat (trace (step p) (effectsNow p v) n (step p x))) (viewOf v (x .world)))

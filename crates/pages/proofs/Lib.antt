@@ -1,3 +1,4 @@
 pub mod Places
 pub mod Numbered
 pub mod Effects
+pub mod Turns
