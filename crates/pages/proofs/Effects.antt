@@ -1,7 +1,7 @@
 -- What is of a site after an event follows from what was of it and from what the event does to it.
 use mathlib.Core.Path.{_≡_, refl, sym, _∙_, ap, ap₂, subst}
 use mathlib.Core.Bool.{Bool, true, false, cond, true≢false}
-use mathlib.Core.List.{List, [], _∷_, _++_}
+use mathlib.Core.List.{List, [], _∷_, _++_, append-nil}
 use Prim.Native.Nat.{ℕ, zero, suc, _<_}
 use lib.Dec.{eqb, ltb}
 use lib.ListN.{length}
@@ -185,3 +185,37 @@ module _ (S R : Type 0) where
       history-law p v n (step p x)
       ∙ ap (takesAll p v (concat (trace (step p) (effectsNow p v) n (step p x)))) (moment p v x (dueNow x))
       ∙ sym (takesAll-join p v (effectsNow p v x) (concat (trace (step p) (effectsNow p v) n (step p x))) (viewOf v (x .world)))
+
+  -- ANOTHER'S TURN: what an act of a window of another site does to v, one case for each act
+  module _ (p : Sites S R) (v : ℕ) (w : World S R) (x : Window S) where
+    foreign-asks : (t : ℕ) (h d : Bytes) (b : Bool) → eqb t v ≡ b → actOf (p .scripts) x ≡ Asks t h d → Foreign p v w x (cond b (Serves (x .site) h d ∷ []) [])
+    foreign-asks t h d true e a = asks h d (a ∙ ap {B = Act} (λ z. Asks z h d) (eqb-true t v e))
+    foreign-asks t h d false e a = nothing
+
+    foreign-says : (j t : ℕ) (d : Bytes) (b : Bool) → eqb t v ≡ b → (f : Option (Window S)) → nth j (w .part .windows) ≡ f → actOf (p .scripts) x ≡ Says j t d → Foreign p v w x (cond b (cond (isOf t f) (Hears j (x .site) d ∷ []) []) [])
+    foreign-says j t d true e None at-y a = nothing
+    foreign-says j t d true e (Some y) at-y a = go (eqb (y .site) t) refl
+      where
+        go : (c : Bool) → eqb (y .site) t ≡ c → Foreign p v w x (cond c (Hears j (x .site) d ∷ []) [])
+        go true o = says j d y (a ∙ ap {B = Act} (λ z. Says j z d) (eqb-true t v e)) at-y (eqb-true (y .site) t o ∙ eqb-true t v e)
+        go false o = nothing
+    foreign-says j t d false e f at-y a = nothing
+
+    foreign-opens : (t : ℕ) (h : Bytes) (b c : Bool) → eqb t v ≡ b → ltb (length (w .part .windows)) mostWindows ≡ c → actOf (p .scripts) x ≡ Opens t h → Foreign p v w x (cond b (cond c (Begins (length (w .part .windows)) h ∷ []) []) [])
+    foreign-opens t h true true e l a = opens h (a ∙ ap {B = Act} (λ z. Opens z h) (eqb-true t v e)) (ltb-true (length (w .part .windows)) mostWindows l)
+    foreign-opens t h true false e l a = nothing
+    foreign-opens t h false c e l a = nothing
+
+    foreign-act : (i : ℕ) → eqb (x .site) v ≡ false → (a : Act) → actOf (p .scripts) x ≡ a → Foreign p v w x (effectsBy p v i (x .site) a w)
+    foreign-act i n Idle e = nothing
+    foreign-act i n (Asks t h d) e = rw (n, append-nil) (foreign-asks t h d (eqb t v) refl e)
+    foreign-act i n (Says j t d) e = foreign-says j t d (eqb t v) refl (nth j (w .part .windows)) refl e
+    foreign-act i n (Keeps d) e = rw n nothing
+    foreign-act i n Looks e = rw n nothing
+    foreign-act i n (Opens t h) e = foreign-opens t h (eqb t v) (ltb (length (w .part .windows)) mostWindows) refl refl e
+
+  pub touched-only : TouchedOnly S R
+  touched-only p v w i x at-x n =
+      let other : eqb (x .site) v ≡ false = ne-eqb (x .site) v n in
+      subst (λ f. Foreign p v w x (effectsOf p v i f w)) (sym at-x)
+      (subst (λ b. Foreign p v w x (cond b (Runs i ∷ []) [] ++ effectsBy p v i (x .site) (actOf (p .scripts) x) w)) (sym other) (foreign-act p v w x i other (actOf (p .scripts) x) refl))
