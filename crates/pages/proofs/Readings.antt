@@ -58,3 +58,51 @@ module _ {S R : Type 0} where
 module _ (S R : Type 0) where
   pub each-window : EachWindow S R
   each-window p w i j x y at-x at-y = turn-becomes p w i j x y at-x at-y (actOf (p .scripts) x) refl
+
+  pub told-next : ToldNext S R
+  told-next x = (λ e. (rw e, rw e), λ m ms e d. (rw (e, d), rw (e, d)))
+
+  -- the window whose turn it is, by its act
+  own-window :
+      (p : Sites S R) (w : World S R) (i : ℕ) (x : Window S) → nth i (w .part .windows) ≡ Some x → (a : Act) → actOf (p .scripts) x ≡ a → (y : Window S) →
+      becomes p w i (x .site) a i (stepped (p .scripts) x) ≡ y → nth i (happens p (TurnOf i) w .part .windows) ≡ Some y
+  own-window p w i x at-x a e y d =
+      turn-becomes p w i i x x at-x at-x a e
+      ∙ ap {B = Option (Window S)} (λ b. Some (becomes p w i (x .site) a i (cond b (stepped (p .scripts) x) x))) (eq-eqb i i refl)
+      ∙ ap {B = Option (Window S)} Some d
+
+  -- a reply that can be read is seen, if one of the two reasons is there
+  seen : (s t c : ℕ) (b : Bytes) (k : Option Bytes) (lets : ℕ → Bool) → (s ≡ t) ⊎ (lets s ≡ true) → answered s t (Readable c b k lets) ≡ Answer t c b
+  seen s t c b k lets (inl e) = rw (eq-eqb s t e)
+  seen s t c b k lets (inr e) = go (eqb s t)
+    where
+      go : (f : Bool) → cond (f || lets s) (Answer t c b) (Barred t) ≡ Answer t c b
+      go true = refl
+      go false = rw e
+
+  pub sees-own : SeesOwn S R
+  sees-own p w i x t h d c b k lets at-x e r why =
+      own-window p w i x at-x (Asks t h d) e (owns (Answer t c b) (stepped (p .scripts) x))
+      (rw (eq-eqb i i refl) (ap {B = Window S} (λ m. owns m (stepped (p .scripts) x)) (ap (answered (x .site) t) r ∙ seen (x .site) t c b k lets why)))
+
+  pub looks-finds : LooksFinds S R
+  looks-finds p w i x at-x e = own-window p w i x at-x Looks e (owns (Kept (w .part .kept (x .site))) (stepped (p .scripts) x)) (rw (eq-eqb i i refl))
+
+  pub word-to-oneself : WordToOneself S R
+  word-to-oneself p w i x d at-x e room =
+      own-window p w i x at-x (Says i (x .site) d) e (joined (record { from = x .site; what = d }) (stepped (p .scripts) x))
+      (rw (eq-eqb i i refl, eq-eqb (x .site) (x .site) refl, lt-ltb (length (wordsLeft x)) mostWords room))
+
+  full : (t : ℕ) (m : Word) (y : Window S) → 8 ≤ length (y .words) → hears t m y ≡ y
+  full t m y l = rw (le-ltb (length (y .words)) mostWords l) (go (eqb (y .site) t))
+    where
+      go : (b : Bool) → cond (b && false) (joined m y) y ≡ y
+      go true = refl
+      go false = refl
+
+  pub ninth-word : NinthWord S R
+  ninth-word p w i j x y t d at-x at-y n e l =
+      turn-becomes p w i j x y at-x at-y (Says j t d) e
+      ∙ ap {B = Option (Window S)} (λ b. Some (becomes p w i (x .site) (Says j t d) j (cond b (stepped (p .scripts) y) y))) (ne-eqb j i n)
+      ∙ ap {B = Option (Window S)} (λ b. Some (cond b (hears t (record { from = x .site; what = d }) y) y)) (eq-eqb j j refl)
+      ∙ ap {B = Option (Window S)} Some (full t (record { from = x .site; what = d }) y l)
