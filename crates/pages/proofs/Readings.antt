@@ -106,3 +106,22 @@ module _ (S R : Type 0) where
       ∙ ap {B = Option (Window S)} (λ b. Some (becomes p w i (x .site) (Says j t d) j (cond b (stepped (p .scripts) y) y))) (ne-eqb j i n)
       ∙ ap {B = Option (Window S)} (λ b. Some (cond b (hears t (record { from = x .site; what = d }) y) y)) (eq-eqb j j refl)
       ∙ ap {B = Option (Window S)} Some (full t (record { from = x .site; what = d }) y l)
+
+  -- a page is asked for, or not, as there is room
+  needed : (t : ℕ) (h : Bytes) (b : Part S) (room : Bool) → ltb (length (b .windows)) mostWindows ≡ room → pageNeeded t h b ≡ cond room (Some (record { site = t; from = None; token = b .tokens t; path = h; body = [] })) None
+  needed t h b room e = ap {B = Option Request} (λ c. cond c (Some (record { site = t; from = None; token = b .tokens t; path = h; body = [] })) None) e
+
+  turn-opens :
+      (p : Sites S R) (w : World S R) (i : ℕ) (x : Window S) (t : ℕ) (h : Bytes) → nth i (w .part .windows) ≡ Some x → actOf (p .scripts) x ≡ Opens t h → (room : Bool) → ltb (length (w .part .windows)) mostWindows ≡ room →
+      happens p (TurnOf i) w ≡ exchanged p (TurnOf i) (cond room (Some (fetching w t h)) None) (afterRun p i w .part) (w .servers)
+  turn-opens p w i x t h at-x e room r =
+      turn-is p i x w at-x (Opens t h) e
+      ∙ ap (λ q. exchanged p (TurnOf i) q (afterRun p i w .part) (w .servers))
+      (needed t h (afterRun p i w .part) room (ap (λ n. ltb n mostWindows) (change-length i (stepped (p .scripts)) (w .part .windows)) ∙ r))
+
+  pub opens-window : OpensWindow S R
+  opens-window p w i x t h at-x e = (
+    λ l. turn-opens p w i x t h at-x e true (lt-ltb (length (w .part .windows)) mostWindows l),
+    λ l. let full-up : ltb (length (w .part .windows)) mostWindows ≡ false = le-ltb (length (w .part .windows)) mostWindows l in
+    (ap (λ f. needsOf (p .scripts) f (w .part)) at-x ∙ ap (λ a. needsBy (x .site) a (w .part)) e ∙ needed t h (w .part) false full-up, turn-opens p w i x t h at-x e false full-up),
+  )
