@@ -11,7 +11,7 @@ use Rattle.std.specs.declared.option.Option.{Option}
 use Rattle.std.specs.declared.option.Option.the-variants.{Some, None}
 use Rattle.pages.specs.Sites.{Bytes, Act, Idle, Asks, Says, Keeps, Looks, Opens, Told, Silence, Begun, Answer, Barred, Heard, Kept, Request, Reply, Unreadable, Readable, Served, Sites}
 use Rattle.pages.specs.Browser.{Word, Window, Part, World, mostWindows, mostWords, nth, change, isSilence, firstWord, otherWords, toldNow, wordsLeft, actOf, stepped, owns, joined, hears, answered, pageNeeded, needsBy, needsOf, needs, exchanged, happens, Event, TurnOf}
-use Rattle.pages.specs.Laws.{asking, fetching, ran, becomes, running, EachWindow, ToldNext, SeesOwn, WordToOneself, NinthWord, OpensWindow, LooksFinds}
+use Rattle.pages.specs.Laws.{asking, fetching, ran, becomes, running, EachWindow, ToldNext, SeesOwn, WordToOneself, NinthWord, OpensWindow, LooksFinds, Readings}
 use Rattle.pages.proofs.Places.{nth-change, nth-change-other, nth-join, change-length}
 use Rattle.pages.proofs.Turns.{afterRun, does, turn-is}
 
@@ -125,3 +125,6 @@ module _ (S R : Type 0) where
     λ l. let full-up : ltb (length (w .part .windows)) mostWindows ≡ false = le-ltb (length (w .part .windows)) mostWindows l in
     (ap (λ f. needsOf (p .scripts) f (w .part)) at-x ∙ ap (λ a. needsBy (x .site) a (w .part)) e ∙ needed t h (w .part) false full-up, turn-opens p w i x t h at-x e false full-up),
   )
+
+  pub readings : Readings S R
+  readings = record { told-next = told-next; sees-own = sees-own; word-to-oneself = word-to-oneself; ninth-word = ninth-word; opens-window = opens-window; looks-finds = looks-finds }

@@ -234,3 +234,12 @@ module _ (S R : Type 0) where
   OnlyNamed =
       (p : Sites S R) (g : Settings) (r : ℕ → R) (n : ℕ) → Every (λ o. o .site < p .scripts .sites) (g .opens) →
       Every (λ x. x .site < p .scripts .sites) (after p n (begin g r) .world .part .windows) × NamedRequest (p .scripts .sites) (requestNow p (after p n (begin g r)))
+
+-- What a window may count on: what it is told next; what it sees of a reply; words to itself and ninth words; openings; what it finds.
+pub record Readings (S R : Type 0) : Type 0 where
+  pub told-next : ToldNext S R
+  pub sees-own : SeesOwn S R
+  pub word-to-oneself : WordToOneself S R
+  pub ninth-word : NinthWord S R
+  pub opens-window : OpensWindow S R
+  pub looks-finds : LooksFinds S R

@@ -2,3 +2,4 @@
 ghost use mathlib.Core.Path.{_≡_};
 
 pub mod limits;
+pub mod views;
