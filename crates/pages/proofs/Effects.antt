@@ -1,31 +1,38 @@
 -- What is of a site after an event follows from what was of it and from what the event does to it.
 use mathlib.Core.Path.{_≡_, refl, sym, _∙_, ap, ap₂, subst}
-use mathlib.Core.Bool.{Bool, true, false, cond, true≢false}
+use mathlib.Core.Bool.{Bool, true, false, cond}
 use mathlib.Core.List.{List, [], _∷_, _++_, append-nil}
-use Prim.Native.Nat.{ℕ, zero, suc, _<_}
+use Prim.Native.Nat.{ℕ, zero, suc}
 use lib.Dec.{eqb, ltb}
 use lib.ListN.{length}
 use borrow.Author.Tests.{eqb-true, eqb-false, eq-eqb, ne-eqb, ltb-true}
 use Rattle.std.specs.declared.option.Option.{Option}
 use Rattle.std.specs.declared.option.Option.the-variants.{Some, None}
-use Rattle.pages.specs.Sites.{Bytes, Act, Idle, Asks, Says, Keeps, Looks, Opens, Told, Kept, Request, Reply, Served, Sites}
-use Rattle.pages.specs.Browser.{Word, Window, Part, World, mostWindows, at, nth, change, actOf, stepped, owns, hears, fresh, answered, tokenAfter, with-windows, acted, pageNeeded, needsBy, needsOf, begunBy, withReply, exchanged, happens, Event, Opening, TurnOf}
+use Rattle.pages.specs.Sites.{Bytes, Act, Idle, Asks, Says, Keeps, Looks, Opens, Told, Kept, Request, Sites}
+use Rattle.pages.specs.Browser.{Word, Window, World, mostWindows, at, nth, change, actOf, stepped, owns, hears, fresh, answered, tokenAfter, pageNeeded, needsOf, begunBy, exchanged, happens, Event, Opening, TurnOf}
 use Rattle.pages.specs.Outs.{isOf}
 use Rattle.pages.specs.Runs.{Run, Due, iterate, trace, dueNow, eventBy, stepBy, step, after}
-use Rattle.pages.specs.Views.{View, viewOf, ofSite, Effect, Runs, Learns, Finds, Hears, Stores, Serves, Begins, changeAt, onlyFor, opening, servedTo, with-own, with-served, takes, takesAll, effectsBy, effectsOf, effects, effectsOn, effectsNow, concat}
+use Rattle.pages.specs.Views.{View, viewOf, ofSite, Effect, Runs, Learns, Finds, Hears, Stores, Serves, Begins, changeAt, onlyFor, opening, with-own, with-served, takes, takesAll, effectsBy, effectsOf, effects, effectsOn, effectsNow, concat}
 use Rattle.pages.specs.Laws.{asking, fetching, running, ViewLaw, HistoryLaw, Foreign, nothing, asks, says, opens, TouchedOnly}
-use Rattle.pages.proofs.Places.{some-one, nth-change, isOf-change, change-length, at-here, at-there, Sited, sited-this, hears-site, hears-not}
+use Rattle.pages.proofs.Places.{nth-change, isOf-change, change-length, at-there, Sited, sited-this, hears-site}
 use Rattle.pages.proofs.Turns.{showing, replied, afterRun, does, turn-is}
-use Rattle.pages.proofs.Numbered.{KeepsSite, ofSite-same, ofSite-at, ofSite-join, ofSite-own, ofSite-unheard}
+use Rattle.pages.proofs.Numbered.{KeepsSite, ofSite-at, ofSite-join, ofSite-own, ofSite-unheard}
 
 at-this : {A : Type 0} (t v : ℕ) (a : A) (f : ℕ → A) → t ≡ v → at t a f v ≡ a
 at-this t v a f e = rw (eq-eqb v t (sym e))
+
+at-other : {A : Type 0} (t v : ℕ) (a : A) (f : ℕ → A) → eqb t v ≡ false → at t a f v ≡ f v
+at-other t v a f n = at-there t a f v (ne-eqb v t (λ e. eqb-false t v n (sym e)))
 
 module _ {S R : Type 0} where
   takesAll-join : (p : Sites S R) (v : ℕ) (es fs : List Effect) (x : View S R) → takesAll p v (es ++ fs) x ≡ takesAll p v fs (takesAll p v es x)
   unfolding takesAll
   takesAll-join p v [] fs x = refl
   takesAll-join p v (e ∷ es) fs x = takesAll-join p v es fs (takes p v e x)
+
+  -- what is of a site, where it has these windows
+  showing-view : (v : ℕ) (w : World S R) (xs : List (Window S)) (ys : List (ℕ × Window S)) → ofSite v 0 xs ≡ ys → viewOf v (showing xs w) ≡ with-own ys (viewOf v w)
+  showing-view v w xs ys e = ap (λ zs. with-own zs (viewOf v w)) e
 
   -- THE WINDOWS ALONE ARE CHANGED: one of site s, which is an effect for s
   own-effect :
@@ -36,8 +43,8 @@ module _ {S R : Type 0} where
   own-effect p v i s f e w k h t = go (eqb s v) refl
     where
       go : (b : Bool) → eqb s v ≡ b → viewOf v (showing (change i f (w .part .windows)) w) ≡ takesAll p v (cond b (e ∷ []) []) (viewOf v w)
-      go true d = ap (λ xs. with-own xs (viewOf v w)) (ofSite-own v i s f (w .part .windows) k h true d) ∙ sym (t (eqb-true s v d))
-      go false d = ap (λ xs. with-own xs (viewOf v w)) (ofSite-own v i s f (w .part .windows) k h false d)
+      go true d = showing-view v w _ _ (ofSite-own v i s f (w .part .windows) k h true d) ∙ sym (t (eqb-true s v d))
+      go false d = showing-view v w _ _ (ofSite-own v i s f (w .part .windows) k h false d)
 
   -- a word is said to window j, if it is of site t
   word-effect :
@@ -50,10 +57,9 @@ module _ {S R : Type 0} where
           (b c : Bool) → eqb t v ≡ b → isOf t (nth j (w .part .windows)) ≡ c →
           viewOf v (showing (change j (hears t m) (w .part .windows)) w) ≡ takesAll p v (cond b (cond c (Hears j (m .from) (m .what) ∷ []) []) []) (viewOf v w)
       go true true e o =
-          ap (λ xs. with-own xs (viewOf v w))
-          (ofSite-at v j (hears t m) (w .part .windows) (hears-site t m) ∙ ap (λ z. changeAt j (hears z m) (ofSite v 0 (w .part .windows))) (eqb-true t v e))
-      go true false e o = ap (λ xs. with-own xs (viewOf v w)) (ofSite-unheard v j t m (w .part .windows) (λ x at-x h. ap (isOf t) (sym at-x) ∙ o))
-      go false c e o = ap (λ xs. with-own xs (viewOf v w)) (ofSite-unheard v j t m (w .part .windows) (λ x at-x h. ne-eqb (x .site) t (λ d. eqb-false t v e (sym d ∙ eqb-true (x .site) v h))))
+          showing-view v w _ _ (ofSite-at v j (hears t m) (w .part .windows) (hears-site t m) ∙ ap (λ z. changeAt j (hears z m) (ofSite v 0 (w .part .windows))) (eqb-true t v e))
+      go true false e o = showing-view v w _ _ (ofSite-unheard v j t m (w .part .windows) (λ x at-x h. ap (isOf t) (sym at-x) ∙ o))
+      go false c e o = showing-view v w _ _ (ofSite-unheard v j t m (w .part .windows) (λ x at-x h. ne-eqb (x .site) t (λ d. eqb-false t v e (sym d ∙ eqb-true (x .site) v h))))
 
   -- A SERVER IS ASKED, which is an effect for its site
   served-here : (p : Sites S R) (v : ℕ) (q : Request) (xs : List (Window S)) (w : World S R) → q .site ≡ v → viewOf v (replied p q xs w) ≡ with-served (ofSite v 0 xs) (p .serve q (w .servers (q .site))) (viewOf v w)
@@ -64,10 +70,9 @@ module _ {S R : Type 0} where
 
   served-else : (p : Sites S R) (v : ℕ) (q : Request) (xs : List (Window S)) (w : World S R) → eqb (q .site) v ≡ false → viewOf v (replied p q xs w) ≡ viewOf v (showing xs w)
   served-else p v q xs w n =
-      let other : eqb v (q .site) ≡ false = ne-eqb v (q .site) (λ e. eqb-false (q .site) v n (sym e)) in
       ap₂ (λ k r. record { windows = ofSite v 0 xs; token = k; kept = w .part .kept v; server = r })
-      (at-there (q .site) _ (w .part .tokens) v other)
-      (at-there (q .site) _ (w .servers) v other)
+      (at-other (q .site) v _ (w .part .tokens) n)
+      (at-other (q .site) v _ (w .servers) n)
 
   ask-effect : (p : Sites S R) (v s t : ℕ) (h d : Bytes) (w : World S R) → viewOf v (replied p (asking w s t h d) (w .part .windows) w) ≡ takesAll p v (onlyFor v t (Serves s h d ∷ [])) (viewOf v w)
   unfolding takesAll
@@ -99,7 +104,7 @@ module _ {S R : Type 0} where
           ∙ ap (λ z. with-served (ofSite v 0 (w .part .windows) ++ ((length (w .part .windows), begins p z h w) ∷ [])) (p .serve (fetching w z h) (w .servers z)) (viewOf v w)) (eqb-true t v e)
       go false e =
           served-else p v (fetching w t h) (w .part .windows ++ (begins p t h w ∷ [])) w e
-          ∙ ap (λ xs. with-own xs (viewOf v w)) (ofSite-join v (w .part .windows) (begins p t h w) false e)
+          ∙ showing-view v w _ _ (ofSite-join v (w .part .windows) (begins p t h w) false e)
 
   -- the same where there is room, and else nothing: for any event that ends so
   opening-effect :
@@ -118,14 +123,16 @@ module _ {S R : Type 0} where
       go true = ap (viewOf v) same ∙ fresh-effect p v t h w
       go false = nobody (eqb t v)
 
-  -- WHAT AN ACT DOES, one case for each: window i of site s does it, and its script has run
+  abbrev keeping : View S R → Bytes → View S R
+  keeping x d = record { windows = x .windows; token = x .token; kept = d; server = x .server }
+
+  -- SOMETHING IS KEPT, which is an effect for the site that keeps it
   keep-effect : (p : Sites S R) (v s : ℕ) (d : Bytes) (w : World S R) (b : Bool) → eqb s v ≡ b → viewOf v (does p 0 s (Keeps d) w) ≡ takesAll p v (cond b (Stores d ∷ []) []) (viewOf v w)
   unfolding takesAll
-  keep-effect p v s d w true e = ap (λ k. record { windows = ofSite v 0 (w .part .windows); token = w .part .tokens v; kept = k; server = w .servers v }) (at-this s v d (w .part .kept) (eqb-true s v e))
-  keep-effect p v s d w false e =
-      ap (λ k. record { windows = ofSite v 0 (w .part .windows); token = w .part .tokens v; kept = k; server = w .servers v })
-      (at-there s d (w .part .kept) v (ne-eqb v s (λ c. eqb-false s v e (sym c))))
+  keep-effect p v s d w true e = ap (keeping (viewOf v w)) (at-this s v d (w .part .kept) (eqb-true s v e))
+  keep-effect p v s d w false e = ap (keeping (viewOf v w)) (at-other s v d (w .part .kept) e)
 
+  -- WHAT AN ACT DOES, one case for each: window i of site s does it, and its script has run
   act-effects : (p : Sites S R) (v i s : ℕ) (w : World S R) → Sited i s (w .part .windows) → (a : Act) → viewOf v (does p i s a w) ≡ takesAll p v (effectsBy p v i s a w) (viewOf v w)
   unfolding takesAll
   act-effects p v i s w at-i Idle = refl

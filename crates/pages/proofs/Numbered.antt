@@ -1,19 +1,16 @@
 -- The windows of a site with their numbers: what a change of one window, and a window more, make of them.
-use mathlib.Core.Path.{_≡_, refl, sym, _∙_, ap, subst}
+use mathlib.Core.Path.{_≡_, refl, sym, _∙_, ap}
 use mathlib.Core.Bool.{Bool, true, false, cond, true≢false}
 use mathlib.Core.List.{List, [], _∷_, _++_, append-nil}
 use Prim.Native.Nat.{ℕ, zero, suc, _+_, _<_}
-use native.Mathlib.Nat.{add-zero, add-suc}
 use native.Mathlib.Omega.{arith}
 use lib.Dec.{eqb}
 use lib.ListN.{length}
-use borrow.Author.Tests.{eqb-true, eqb-false, eq-eqb, ne-eqb}
-use Rattle.std.specs.declared.option.Option.{Option}
-use Rattle.std.specs.declared.option.Option.the-variants.{Some, None}
+use borrow.Author.Tests.{eq-eqb, ne-eqb}
+use Rattle.std.specs.declared.option.Option.the-variants.{Some}
 use Rattle.pages.specs.Browser.{Word, Window, nth, change, hears}
-use Rattle.pages.specs.Outs.{isOf}
 use Rattle.pages.specs.Views.{ofSite, changeAt}
-use Rattle.pages.proofs.Places.{some-one, hears-site, hears-not, Sited}
+use Rattle.pages.proofs.Places.{hears-site, hears-not, Sited}
 
 module _ {S : Type 0} where
   -- f leaves windows their sites

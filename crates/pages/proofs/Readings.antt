@@ -1,17 +1,17 @@
 -- What a turn makes of each window, and what follows for askings, words, openings and lookings.
 use mathlib.Core.Path.{_≡_, refl, sym, _∙_, ap, subst}
-use mathlib.Core.Bool.{Bool, true, false, cond, _&&_, _||_, true≢false}
-use mathlib.Core.List.{List, [], _∷_, _++_}
+use mathlib.Core.Bool.{Bool, true, false, cond, _&&_, _||_}
+use mathlib.Core.List.{List, []}
 use mathlib.Core.Logic.{_⊎_, inl, inr}
-use Prim.Native.Nat.{ℕ, _<_, _≤_}
+use Prim.Native.Nat.{ℕ, _≤_}
 use lib.Dec.{eqb, ltb}
 use lib.ListN.{length}
 use borrow.Author.Tests.{eqb-true, eqb-false, eq-eqb, ne-eqb, lt-ltb, le-ltb}
 use Rattle.std.specs.declared.option.Option.{Option}
 use Rattle.std.specs.declared.option.Option.the-variants.{Some, None}
-use Rattle.pages.specs.Sites.{Bytes, Act, Idle, Asks, Says, Keeps, Looks, Opens, Told, Silence, Begun, Answer, Barred, Heard, Kept, Request, Reply, Unreadable, Readable, Served, Sites}
-use Rattle.pages.specs.Browser.{Word, Window, Part, World, mostWindows, mostWords, nth, change, isSilence, firstWord, otherWords, toldNow, wordsLeft, actOf, stepped, owns, joined, hears, answered, pageNeeded, needsBy, needsOf, needs, exchanged, happens, Event, TurnOf}
-use Rattle.pages.specs.Laws.{asking, fetching, ran, becomes, running, EachWindow, ToldNext, SeesOwn, WordToOneself, NinthWord, OpensWindow, LooksFinds, Readings}
+use Rattle.pages.specs.Sites.{Bytes, Act, Idle, Asks, Says, Keeps, Looks, Opens, Answer, Barred, Kept, Request, Readable, Sites}
+use Rattle.pages.specs.Browser.{Word, Window, Part, World, mostWindows, mostWords, nth, change, wordsLeft, actOf, stepped, owns, joined, hears, answered, pageNeeded, needsBy, needsOf, exchanged, happens, TurnOf}
+use Rattle.pages.specs.Laws.{asking, fetching, ran, becomes, EachWindow, ToldNext, SeesOwn, WordToOneself, NinthWord, OpensWindow, LooksFinds, Readings}
 use Rattle.pages.proofs.Places.{nth-change, nth-change-other, nth-join, change-length}
 use Rattle.pages.proofs.Turns.{afterRun, does, turn-is}
 
@@ -123,7 +123,7 @@ module _ (S R : Type 0) where
   opens-window p w i x t h at-x e = (
     λ l. turn-opens p w i x t h at-x e true (lt-ltb (length (w .part .windows)) mostWindows l),
     λ l. let full-up : ltb (length (w .part .windows)) mostWindows ≡ false = le-ltb (length (w .part .windows)) mostWindows l in
-    (ap (λ f. needsOf (p .scripts) f (w .part)) at-x ∙ ap (λ a. needsBy (x .site) a (w .part)) e ∙ needed t h (w .part) false full-up, turn-opens p w i x t h at-x e false full-up),
+        (ap (λ f. needsOf (p .scripts) f (w .part)) at-x ∙ ap (λ a. needsBy (x .site) a (w .part)) e ∙ needed t h (w .part) false full-up, turn-opens p w i x t h at-x e false full-up),
   )
 
   pub readings : Readings S R

@@ -1,14 +1,13 @@
 -- A turn is its script's run and then its act.
 use mathlib.Core.Path.{_≡_, refl, sym, _∙_, ap}
 use mathlib.Core.Bool.{cond}
-use mathlib.Core.List.{List, []}
+use mathlib.Core.List.{List}
 use Prim.Native.Nat.{ℕ}
 use lib.Dec.{ltb}
-use lib.ListN.{length}
 use Rattle.std.specs.declared.option.Option.{Option}
 use Rattle.std.specs.declared.option.Option.the-variants.{Some, None}
-use Rattle.pages.specs.Sites.{Act, Idle, Asks, Says, Keeps, Looks, Opens, Request, Reply, Served, Sites}
-use Rattle.pages.specs.Browser.{Window, Part, World, mostWindows, at, nth, actOf, stepped, with-windows, acted, needsBy, needsOf, begunBy, withReply, exchanged, happens, Event, TurnOf}
+use Rattle.pages.specs.Sites.{Act, Idle, Asks, Says, Keeps, Looks, Opens, Request, Sites}
+use Rattle.pages.specs.Browser.{Window, World, mostWindows, at, nth, actOf, stepped, with-windows, acted, needsBy, needsOf, begunBy, withReply, exchanged, happens, TurnOf}
 use Rattle.pages.specs.Laws.{running, fetching}
 use Rattle.pages.proofs.Places.{change-length}
 
