@@ -1,5 +1,5 @@
 pub mod Places
 pub mod Numbered
-pub mod Effects
 pub mod Turns
+pub mod Effects
 pub mod Readings
