@@ -12,3 +12,7 @@ pub mod Bounds
 pub mod NamedSites
 pub mod LastKept
 pub mod TrueWords
+pub mod Numbered
+pub mod Turns
+pub mod Effects
+pub mod Readings

@@ -9,7 +9,7 @@ use lib.ListN.{length}
 use Rattle.std.specs.declared.option.Option.{Option}
 use Rattle.std.specs.declared.option.Option.the-variants.{Some, None}
 use Rattle.pages.specs.Sites.{Bytes, Act, Idle, Asks, Says, Keeps, Looks, Opens, Told, Silence, Begun, Answer, Barred, Heard, Kept, Request, Reply, Unreadable, Readable, Served, Sites}
-use Rattle.pages.specs.Browser.{Word, Window, Part, World, mostWords, at, nth, change, toldNow, wordsLeft, isSilence, actOf, stepped, owns, joined, hears, fresh, answered, tokenAfter, needs, happens, Event, Opening, TurnOf}
+use Rattle.pages.specs.Browser.{Word, Window, Part, World, mostWords, at, nth, change, toldNow, wordsLeft, isSilence, actOf, stepped, owns, hears, answered, tokenAfter, pageIn, needs, happens, Event, Opening, TurnOf}
 use Rattle.pages.specs.Outs.{What, Asked, Said, Opened, Let, Out, out, isOf, outs, keepOnly}
 use Rattle.pages.specs.Runs.{Run, Open, Settings, trace, step, after, begin, eventNow, requestNow}
 use Rattle.pages.specs.Views.{View, viewOf, Effect, Serves, Hears, Begins, takesAll, effects, effectsNow, concat}
@@ -75,6 +75,10 @@ module _ {S R : Type 0} where
   -- Window i with its script run.
   abbrev pub running : Sites S R → ℕ → World S R → List (Window S)
   running p i w = change i (stepped (p .scripts)) (w .part .windows)
+
+  -- Window x after its turn: its script has run on what it was told, which is taken away; this comes of its own doing, and these words wait.
+  abbrev pub afterTurn : Sites S R → Window S → Told → List Word → Window S
+  afterTurn p x m ms = record { site = x .site; state = p .scripts .next (x .site) (x .state) (toldNow x); own = m; words = ms }
 
 -- Will a window that is there, and of site t, take a word more?
 abbrev pub accepts : {S : Type 0} → ℕ → Option (Window S) → Bool
@@ -178,13 +182,13 @@ module _ (S R : Type 0) where
   SeesOwn =
       (p : Sites S R) (w : World S R) (i : ℕ) (x : Window S) (t : ℕ) (h d : Bytes) (c : ℕ) (b : Bytes) (k : Option Bytes) (lets : ℕ → Bool) →
       nth i (w .part .windows) ≡ Some x → actOf (p .scripts) x ≡ Asks t h d → p .serve (asking w (x .site) t h d) (w .servers t) .reply ≡ Readable c b k lets → (x .site ≡ t) ⊎ (lets (x .site) ≡ true) →
-      nth i (happens p (TurnOf i) w .part .windows) ≡ Some (owns (Answer t c b) (stepped (p .scripts) x))
+      nth i (happens p (TurnOf i) w .part .windows) ≡ Some (afterTurn p x (Answer t c b) (wordsLeft x))
 
   -- A WORD TO ONESELF waits behind those that wait already, once the oldest is taken.
   abbrev pub WordToOneself : Type 0
   WordToOneself =
       (p : Sites S R) (w : World S R) (i : ℕ) (x : Window S) (d : Bytes) → nth i (w .part .windows) ≡ Some x → actOf (p .scripts) x ≡ Says i (x .site) d → length (wordsLeft x) < 8 →
-      nth i (happens p (TurnOf i) w .part .windows) ≡ Some (joined (record { from = x .site; what = d }) (stepped (p .scripts) x))
+      nth i (happens p (TurnOf i) w .part .windows) ≡ Some (afterTurn p x Silence (wordsLeft x ++ (record { from = x .site; what = d } ∷ [])))
 
   -- A NINTH WORD changes nothing of the window that it was for.
   abbrev pub NinthWord : Type 0
@@ -200,7 +204,7 @@ module _ (S R : Type 0) where
       happens p (TurnOf i) w ≡
       record {
         part = record {
-          windows = running p i w ++ (fresh (p .scripts) t h (p .serve (fetching w t h) (w .servers t) .reply) ∷ []);
+          windows = running p i w ++ (record { site = t; state = p .scripts .begin t (pageIn (p .serve (fetching w t h) (w .servers t) .reply)); own = Begun h; words = [] } ∷ []);
           tokens = tokensAfter p (fetching w t h) w;
           kept = w .part .kept;
         };
@@ -217,7 +221,7 @@ module _ (S R : Type 0) where
   abbrev pub LooksFinds : Type 0
   LooksFinds =
       (p : Sites S R) (w : World S R) (i : ℕ) (x : Window S) → nth i (w .part .windows) ≡ Some x → actOf (p .scripts) x ≡ Looks →
-      nth i (happens p (TurnOf i) w .part .windows) ≡ Some (owns (Kept (w .part .kept (x .site))) (stepped (p .scripts) x))
+      nth i (happens p (TurnOf i) w .part .windows) ≡ Some (afterTurn p x (Kept (w .part .kept (x .site))) (wordsLeft x))
 
   -- EVERY WORD IS TRUE. From the settings on, the words that wait for a window are the last of those that were said to it, in order, each once, and each under the site of the window that said it.
   abbrev pub WordsTruly : Type 0
@@ -234,3 +238,12 @@ module _ (S R : Type 0) where
   OnlyNamed =
       (p : Sites S R) (g : Settings) (r : ℕ → R) (n : ℕ) → Every (λ o. o .site < p .scripts .sites) (g .opens) →
       Every (λ x. x .site < p .scripts .sites) (after p n (begin g r) .world .part .windows) × NamedRequest (p .scripts .sites) (requestNow p (after p n (begin g r)))
+
+-- What a window may count on: what it is told next; what it sees of a reply; words to itself and ninth words; openings; what it finds.
+pub record Readings (S R : Type 0) : Type 0 where
+  pub told-next : ToldNext S R
+  pub sees-own : SeesOwn S R
+  pub word-to-oneself : WordToOneself S R
+  pub ninth-word : NinthWord S R
+  pub opens-window : OpensWindow S R
+  pub looks-finds : LooksFinds S R

@@ -3,3 +3,4 @@ pub mod cases;
 pub mod limits;
 pub mod moments;
 pub mod promise;
+pub mod views;
