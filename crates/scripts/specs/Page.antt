@@ -1,9 +1,11 @@
 -- Page files: `PAGE 1`, a count of two bytes, and so many steps of eight bytes, numbers with their highest byte first.
+use mathlib.Core.Path.{_≡_}
 use mathlib.Core.Bool.{Bool, true, false, cond, _&&_}
 use mathlib.Core.List.{List, [], _∷_, _++_}
 use Prim.Native.Nat.{ℕ, zero, suc, _+_, _*_, _/_, _%_}
 use lib.Dec.{eqb, ltb, leb}
 use lib.ListN.{length, getD, take, drop}
+use Rattle.std.specs.Joined.{joined}
 use Rattle.scripts.specs.declared.Step.{Step}
 use Rattle.scripts.specs.declared.Step.the-variants.{Constant, Move, Sum, Product, Equal, Less, Jump, JumpIf, Load, Store, Wait}
 use Rattle.scripts.specs.declared.Call.{Call}
@@ -132,3 +134,24 @@ bodyIn (Ok count) bs = stepsIn count bs
 -- the steps of a page file, or why it cannot be read
 abbrev pub pageIn : List ℕ → Result (List Step) Unreadable
 pageIn bs = bodyIn (headIn bs) (drop 8 bs)
+
+-- the head of the page file of so many steps
+abbrev pub headOf : ℕ → List ℕ
+headOf count = 80 ∷ 65 ∷ 71 ∷ 69 ∷ 32 ∷ 49 ∷ (count / 256 % 256) ∷ (count % 256) ∷ []
+
+-- the page file of a script
+abbrev pub pageOf : List Step → List ℕ
+pageOf steps = headOf (length steps) ++ joined stepBytes steps
+
+-- a buffer after bytes were written to its front; nothing is written where they do not fit
+abbrev pub written : List ℕ → List ℕ → List ℕ
+written bs buffer = cond (leb (length bs) (length buffer)) (bs ++ drop (length bs) buffer) buffer
+
+-- how many bytes were written to a buffer
+abbrev pub writtenSize : List ℕ → List ℕ → Option ℕ
+writtenSize bs buffer = cond (leb (length bs) (length buffer)) (Some (length bs)) None
+
+-- what was written to a buffer is read as these steps
+abbrev pub ReadBack : Option ℕ → List ℕ → List Step → Type 0
+ReadBack None buffer steps = Unit {0}
+ReadBack (Some size) buffer steps = pageIn (take size buffer) ≡ Ok steps

@@ -4,6 +4,8 @@ use lib.ListN.{take}
 use Rattle.scripts.specs.declared.Step.{Step}
 use Rattle.scripts.specs.declared.Unreadable.{Unreadable}
 use Rattle.scripts.specs.declared.script.Script.{Script}
+use Rattle.std.specs.declared.option.Option.{Option}
+use Rattle.std.specs.declared.option.Option.the-variants.{Some, None}
 use Rattle.std.specs.declared.result.Result.{Result}
 use Rattle.std.specs.declared.result.Result.the-variants.{Ok, Err}
 
@@ -15,3 +17,8 @@ stepsOf script = take (script .count) (script .steps)
 abbrev pub stepsRead : Result Script Unreadable → Result (List Step) Unreadable
 stepsRead (Ok script) = Ok (stepsOf script)
 stepsRead (Err fault) = Err fault
+
+-- the steps of a script, if there is one
+abbrev pub stepsTaken : Option Script → Option (List Step)
+stepsTaken (Some script) = Some (stepsOf script)
+stepsTaken None = None

@@ -15,11 +15,10 @@ returns-in-rest c =
 
 pub loop-i-again : need.loop-i-again
 loop-i-again c =
-    let within : c .loop-i .i < length (c .loop-i .steps) = omega arith in
-    (
+    let within : c .loop-i .i < length (c .loop-i .steps) = omega arith in (
       onto-more _ _ _ _ _ _ _ (omega arith) (c .in-Some .ensures tt ∙ ap stepIn (c .split-at .ensures .front))
-      (take-more-set (c .loop-i .steps) (c .loop-i .i) (c .in-Some .step) within) (c .split-at .ensures .back)
-      ∙ c .loop-i .inv .0,
+          (take-more-set (c .loop-i .steps) (c .loop-i .i) (c .in-Some .step) within) (c .split-at .ensures .back)
+          ∙ c .loop-i .inv .0,
       omega arith,
       simp length-set (omega arith),
     )
