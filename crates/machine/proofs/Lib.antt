@@ -1,0 +1,2 @@
+pub mod Graphic
+pub mod Runs
