@@ -1,5 +1,6 @@
 // A turn of a script.
 ghost use mathlib.Core.Path.{_≡_};
+ghost use Rattle.machine.specs.Acts.{Acts};
 ghost use Rattle.machine.specs.Step.{after};
 ghost use Rattle.machine.specs.Turn.{bytesOf, room, placed, starts, hears, runs, turned, endOf, turnOf};
 use crate::Flow;
@@ -72,5 +73,47 @@ impl Machine {
                 stop => break 'steps stop,
             }
         }
+    }
+
+    // Runs on, and says what came of it.
+    fn go(&mut self, script: &[Step], sites: u32, memory: &mut [u8]) -> Outcome
+        ensures turn { λ r. ⌜ turned r (now (self .exit)) (now (memory .exit)) ≡ endOf sites (runs (now (script .entry)) 10000 (now (self .entry)) (now (memory .entry))) ⌝ }
+        ensures acts { λ r. ⌜ Acts r sites (now (script .entry)) (now (self .exit)) (now (memory .exit)) ⌝ }
+    {
+        match self.run(script, memory, 10_000) {
+            Flow::On => Outcome::Paused,
+            Flow::Waits(act) => {
+                self.status = Status::Waiting;
+                if limits::allows(act, sites, memory) {
+                    Outcome::Did(act)
+                } else {
+                    Outcome::Refused
+                }
+            }
+            Flow::Faults => {
+                self.status = Status::Ended;
+                Outcome::Faulted
+            }
+        }
+    }
+
+    // One turn of a script, where so many sites are named. It is told something, with bytes, if it waits.
+    pub fn turn(
+        &mut self,
+        script: &[Step],
+        sites: u32,
+        told: Told,
+        bytes: &[u8],
+        memory: &mut [u8],
+    ) -> Outcome
+        ensures turn { λ r. ⌜ turned r (now (self .exit)) (now (memory .exit)) ≡ turnOf sites (now (script .entry)) told (now (bytes .entry)) (now (self .entry)) (now (memory .entry)) ⌝ }
+        ensures acts { λ r. ⌜ Acts r sites (now (script .entry)) (now (self .exit)) (now (memory .exit)) ⌝ }
+    {
+        match self.status {
+            Status::Ended => return Outcome::Idle,
+            Status::Running => {}
+            Status::Waiting => self.hear(told, bytes, memory),
+        }
+        self.go(script, sites, memory)
     }
 }
