@@ -19,11 +19,13 @@ use Rattle.machine.specs.declared.Act.{Act}
 use Rattle.machine.specs.declared.Act.the-variants as act
 use Rattle.machine.specs.declared.Machine.{Machine}
 use Rattle.machine.specs.declared.Status.{Status}
+use Rattle.machine.specs.declared.Status.the-variants.{Waiting}
+use Rattle.machine.specs.declared.Outcome.the-variants.{Did, Refused}
 use Rattle.machine.specs.declared.Flow.{Flow}
 use Rattle.machine.specs.declared.Flow.the-variants.{On, Waits, Faults}
-use Rattle.machine.specs.Limits.{Inside, Within}
+use Rattle.machine.specs.Limits.{allowed, Inside, Within}
 use Rattle.machine.specs.Step.{After, after, Moved, moved, beside, register, numberAt, pairAt, spanAt, needs, actAt, waits, bit, assign, goto, assigns, jumps, combines, copies, jumpsIf, loads, stores, effect, stepOf}
-use Rattle.machine.specs.Turn.{become, whileOn, runs}
+use Rattle.machine.specs.Turn.{become, whileOn, runs, turned, endOf}
 use Rattle.machine.specs.Acts.{Named}
 
 -- an act is in the memory: the bytes that its wait names are
@@ -183,3 +185,6 @@ module _ (script : List Step) (k : ℕ) (m m′ : Machine) (s s′ : List ℕ) (
 
   pub wait-within : Within a (length s′)
   wait-within = act-within (wait-here .0) m′ (length s′) a (wait-here .1 .1)
+
+  pub wait-done : (sites : ℕ) → true ≡ allowed a sites s′ → turned (Did a) (become Waiting m′) s′ ≡ endOf sites (runs script k m s)
+  wait-done sites e = ap (λ b. turned (cond b (Did a) Refused) (become Waiting m′) s′) e ∙ ap (endOf sites) waited

@@ -2,3 +2,4 @@ pub mod Limits
 pub mod Step
 pub mod Turn
 pub mod Acts
+pub mod Laws

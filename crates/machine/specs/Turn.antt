@@ -126,6 +126,9 @@ turnBy Running k sites script told bs m s = endOf sites (runs script k m s)
 turnBy Waiting k sites script told bs m s =
     endOf sites (runs script k (hears told bs m s) (placed (bytesOf told bs) s))
 
+abbrev pub turnIn : ℕ → ℕ → List Step → Told → List ℕ → Machine → List ℕ → Turned
+turnIn k sites script told bs m s = turnBy (m .status) k sites script told bs m s
+
 -- a turn: at most 10,000 steps
 abbrev pub turnOf : ℕ → List Step → Told → List ℕ → Machine → List ℕ → Turned
-turnOf sites script told bs m s = turnBy (m .status) 10000 sites script told bs m s
+turnOf sites script told bs m s = turnIn 10000 sites script told bs m s

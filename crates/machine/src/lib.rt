@@ -2,6 +2,7 @@
 ghost use mathlib.Core.Path.{_≡_};
 ghost use Rattle.machine.specs.Turn.{fresh, faultNumber};
 
+pub mod laws;
 mod limits;
 mod step;
 pub mod turn;
