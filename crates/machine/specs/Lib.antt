@@ -3,3 +3,4 @@ pub mod Step
 pub mod Turn
 pub mod Acts
 pub mod Laws
+pub mod Script

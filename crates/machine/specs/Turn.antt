@@ -81,7 +81,7 @@ abbrev pub starts : ℕ → ℕ → ℕ → ℕ → Machine → Machine
 starts kind len site code m = record {
   registers = set (set (set (set (m .registers) 0 kind) 1 len) 2 site) 3 code;
   next = m .next;
-  status = Running
+  status = Running;
 }
 
 -- a script that waited is told something

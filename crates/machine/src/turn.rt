@@ -1,6 +1,7 @@
 // A turn of a script.
 ghost use mathlib.Core.Path.{_≡_};
 ghost use Rattle.machine.specs.Acts.{Acts};
+ghost use Rattle.machine.specs.Script.{state, doneIn, actionIn, stateAfter};
 ghost use Rattle.machine.specs.Step.{after};
 ghost use Rattle.machine.specs.Turn.{bytesOf, room, placed, starts, hears, runs, turned, endOf, turnOf};
 use crate::Flow;
@@ -107,6 +108,8 @@ impl Machine {
         memory: &mut [u8],
     ) -> Outcome
         ensures turn { λ r. ⌜ turned r (now (self .exit)) (now (memory .exit)) ≡ turnOf sites (now (script .entry)) told (now (bytes .entry)) (now (self .entry)) (now (memory .entry)) ⌝ }
+        ensures action { λ r. ⌜ doneIn r (now (memory .exit)) ≡ actionIn sites (state (now (self .entry)) (now (memory .entry)) (now (script .entry))) told (now (bytes .entry)) ⌝ }
+        ensures state { λ _. ⌜ state (now (self .exit)) (now (memory .exit)) (now (script .entry)) ≡ stateAfter sites (state (now (self .entry)) (now (memory .entry)) (now (script .entry))) told (now (bytes .entry)) ⌝ }
         ensures acts { λ r. ⌜ Acts r sites (now (script .entry)) (now (self .exit)) (now (memory .exit)) ⌝ }
     {
         match self.status {

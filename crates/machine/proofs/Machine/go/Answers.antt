@@ -15,6 +15,6 @@ returns-then-allows c =
       acts = record {
         named = wait-named _ _ _ _ _ _ _ waited Waiting;
         within = wait-within _ _ _ _ _ _ _ waited;
-        permitted = sym permitted
-      }
+        permitted = sym permitted;
+      };
     }
