@@ -5,17 +5,17 @@ ghost use Rattle.machine.specs.Turn.{fresh, faultNumber};
 pub mod laws;
 mod limits;
 mod step;
-pub mod turn;
+mod turn;
 
 // A part of a script's memory.
-#[derive(Clone, Copy)]
+#[derive(Clone, Copy, PartialEq, Eq, Debug)]
 pub struct Span {
     pub from: u32,
     pub len: u32,
 }
 
 // What a script does. Its bytes are parts of its memory.
-#[derive(Clone, Copy)]
+#[derive(Clone, Copy, PartialEq, Eq, Debug)]
 pub enum Act {
     Nothing,
     Ask { site: u32, path: Span, body: Span },
@@ -37,7 +37,7 @@ pub enum Told {
 }
 
 // What came of a turn.
-#[derive(Clone, Copy)]
+#[derive(Clone, Copy, PartialEq, Eq, Debug)]
 pub enum Outcome {
     // The script waits, and this is done.
     Did(Act),

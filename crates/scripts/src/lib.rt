@@ -4,8 +4,10 @@ ghost use Rattle.scripts.specs.Page.{faultNumber};
 
 mod decode;
 mod encode;
-pub mod page;
-pub mod script;
+mod page;
+mod script;
+
+pub use script::Script;
 
 // One step of a script. Registers are named by a byte, steps by their place in the script.
 #[derive(Clone, Copy)]
@@ -36,7 +38,7 @@ pub enum Call {
 }
 
 // Why a page cannot be read.
-#[derive(Clone, Copy)]
+#[derive(Clone, Copy, PartialEq, Eq, Debug)]
 pub enum Unreadable {
     OtherKind,
     Cut,
