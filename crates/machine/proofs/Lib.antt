@@ -1,0 +1,4 @@
+pub mod Graphic
+pub mod Runs
+pub mod Sound
+pub mod Turns

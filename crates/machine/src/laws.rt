@@ -1,0 +1,13 @@
+// Laws of turns, as the contract of a function.
+ghost use mathlib.Core.Path.{_≡_};
+ghost use mathlib.Core.Bool.{true};
+ghost use Rattle.machine.specs.Laws.{Resumes, Ends};
+
+// A turn that is cut and goes on is the uncut turn; a script that has ended does nothing.
+pub fn laws_hold() -> bool
+    ensures resumes { λ _. ⌜ Resumes ⌝ }
+    ensures ends { λ _. ⌜ Ends ⌝ }
+    ensures value { λ r. ⌜ r ≡ true ⌝ }
+{
+    true
+}
