@@ -2,3 +2,4 @@ pub mod Classes
 pub mod Fronts
 pub mod Numbers
 pub mod Buffers
+pub mod Texts

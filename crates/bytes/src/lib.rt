@@ -9,6 +9,7 @@ ghost use Rattle.bytes.specs.Fronts.{after, front, past};
 
 pub mod decimal;
 pub mod pieces;
+pub mod small;
 
 // A class of bytes.
 #[derive(Clone, Copy)]
