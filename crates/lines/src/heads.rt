@@ -38,3 +38,30 @@ fn take_field<'a, F: Fields<'a>>(fields: F, s: &'a [u8], k: usize, name: &'a [u8
         Err(e) => Err(e),
     }
 }
+
+// All fields up to the empty line, and what follows it.
+pub fn read_fields<'a, F: Fields<'a>>(none: F, s: &'a [u8]) -> Result<(F, &'a [u8]), Fault>
+    ensures { λ r. ⌜ outcome (withRest (F·Fields .known)) r ≡ fields (F·Fields .taking) (F·Fields .known none) (now (s .entry)) ⌝ }
+{
+    let mut known = none;
+    let mut rest = s;
+    for k in 0..s.len() {
+        let Some((line, next)) = line_then(rest) else {
+            return Err(Fault::Unreadable);
+        };
+        if line.is_empty() {
+            return Ok((known, next));
+        }
+        let Some((name, value)) = field_of(line) else {
+            return Err(Fault::Unreadable);
+        };
+        match take_field(known, s, k, name, value) {
+            Ok(more) => {
+                known = more;
+                rest = next;
+            }
+            Err(e) => return Err(e),
+        }
+    }
+    Err(Fault::Unreadable)
+}
