@@ -21,9 +21,10 @@ module _ (n m at d : ℕ) (bs : List ℕ) (so : decimal n ≡ decimal m ++ drop 
 
   pub digit-more : 10 ≤ m → m < 2 ^ 64 → d ≡ 48 + m % 10 → (decimal n ≡ decimal (m / 10) ++ drop (at - 1) (set bs (at - 1) d)) × (length (decimal (m / 10)) < at - 1)
   digit-more h f e =
-      let step : decimal m ≡ decimal (m / 10) ++ ((48 + m % 10) ∷ []) = decimal-step m h f in
-      (so ∙ ap (λ l. l ++ drop at bs) step ∙ append-assoc (decimal (m / 10)) ((48 + m % 10) ∷ []) (drop at bs) ∙ ap (λ l. decimal (m / 10) ++ l) (sym (last ∙ ap (λ x. x ∷ drop at bs) e)),
-       omega (arith, ap length step ∙ length-append (decimal (m / 10)) ((48 + m % 10) ∷ [])))
+      let step : decimal m ≡ decimal (m / 10) ++ ((48 + m % 10) ∷ []) = decimal-step m h f in (
+        so ∙ ap (λ l. l ++ drop at bs) step ∙ append-assoc (decimal (m / 10)) ((48 + m % 10) ∷ []) (drop at bs) ∙ ap (λ l. decimal (m / 10) ++ l) (sym (last ∙ ap (λ x. x ∷ drop at bs) e)),
+        omega (arith, ap length step ∙ length-append (decimal (m / 10)) ((48 + m % 10) ∷ [])),
+      )
 
   pub digit-last : m < 10 → d ≡ 48 + m → drop (at - 1) (set bs (at - 1) d) ≡ decimal n
   digit-last h e = last ∙ ap (λ x. x ∷ drop at bs) e ∙ sym (so ∙ ap (λ l. l ++ drop at bs) (decimal-digit m h))

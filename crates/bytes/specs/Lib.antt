@@ -3,3 +3,4 @@ pub mod Fronts
 pub mod Numbers
 pub mod Buffers
 pub mod Texts
+pub mod Answers

@@ -18,7 +18,10 @@ impl SmallText {
     pub fn empty() -> SmallText
         ensures { λ r. ⌜ drop (r .from) (r .bytes) ≡ [] ⌝ }
     {
-        SmallText { bytes: [0; 21], from: 21 }
+        SmallText {
+            bytes: [0; 21],
+            from: 21,
+        }
     }
 
     fn digits(n: u64) -> SmallText
