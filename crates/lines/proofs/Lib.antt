@@ -1,3 +1,4 @@
 pub mod Names
 pub mod Named
 pub mod Turns
+pub mod Enough

@@ -14,11 +14,12 @@ use Rattle.bytes.specs.declared.Class.the-variants.{Token}
 use Rattle.bytes.specs.Classes.{has}
 use Rattle.bytes.specs.Fronts.{andThen, after, front, past}
 use Rattle.lines.specs.Lines.{lineThen, trim, fieldOf, namesFrom, namesOf}
-use Rattle.lines.specs.Heads.{Outcome, Read, Refused, Taking, readThen, fieldTaken, fieldThen, headThen, head}
+use Rattle.bytes.specs.Answers.{Answer, Read, Fault}
+use Rattle.lines.specs.Heads.{Taking, readThen, fieldTaken, fieldThen, headThen, head}
 
 -- a turn of the loop with n lines at most, after k of them
 module _ {F : Type 0} (taking : Taking F) (n k : ℕ) (names : List (List ℕ)) (f : F) (s : List ℕ) where
-  pub head-end : n ≤ k → head taking (n - k) names f s ≡ Refused 6
+  pub head-end : n ≤ k → head taking (n - k) names f s ≡ Fault 6
   unfolding head
   head-end h = let e : n - k ≡ 0 = omega arith in ap (λ m. head taking m names f s) e
 
@@ -32,7 +33,7 @@ module _ {F : Type 0} (taking : Taking F) (n k : ℕ) (names : List (List ℕ)) 
   pub head-field : (l t : List ℕ) (o : Option (List ℕ × List ℕ)) → k < n → Some (l, t) ≡ lineThen s → false ≡ eqb (length l) 0 → o ≡ fieldOf l → head taking (n - k) names f s ≡ fieldThen taking (λ ns g. head taking (n - (k + 1)) ns g t) names f o
   head-field l t o h q e r = head-turn (Some (l, t)) h q ∙ cond-false (eqb (length l) 0) _ _ (sym e) ∙ sym (ap (fieldThen taking (λ ns g. head taking (n - (k + 1)) ns g t) names f) r)
 
-  pub head-more : (l t name v : List ℕ) (a : Outcome F) → k < n → Some (l, t) ≡ lineThen s → false ≡ eqb (length l) 0 → Some (name, v) ≡ fieldOf l → a ≡ fieldTaken taking names f (name, v) → head taking (n - k) names f s ≡ readThen a (λ g. head taking (n - (k + 1)) (names ++ (name ∷ [])) g t)
+  pub head-more : (l t name v : List ℕ) (a : Answer F) → k < n → Some (l, t) ≡ lineThen s → false ≡ eqb (length l) 0 → Some (name, v) ≡ fieldOf l → a ≡ fieldTaken taking names f (name, v) → head taking (n - k) names f s ≡ readThen a (λ g. head taking (n - (k + 1)) (names ++ (name ∷ [])) g t)
   head-more l t name v a h q e r p = head-field l t (Some (name, v)) h q e r ∙ sym (ap (λ o. readThen o (λ g. head taking (n - (k + 1)) (names ++ (name ∷ [])) g t)) p)
 
 -- before the first line

@@ -4,19 +4,19 @@ use Prim.Native.Nat.{ℕ}
 use denote.Ref.{RefT}
 use Rattle.std.specs.declared.result.Result.{Result}
 use Rattle.std.specs.declared.result.Result.the-variants.{Ok, Err}
-use Rattle.lines.specs.declared.Fault.{Fault}
-use Rattle.lines.specs.declared.Fault.the-variants.{Unreadable, Value}
-use Rattle.lines.specs.Heads.{Outcome, Read, Refused}
+use Rattle.lines.specs.declared.MessageFault.{MessageFault}
+use Rattle.lines.specs.declared.MessageFault.the-variants.{Unreadable, Value}
+use Rattle.bytes.specs.Answers.{Answer, Read, Fault}
 
 -- the number of a fault
-abbrev pub faultNumber : Fault → ℕ
+abbrev pub faultNumber : MessageFault → ℕ
 faultNumber Unreadable = 6
 faultNumber Value = 7
 
 -- what a result stands for, by what its value stands for
-abbrev pub outcome : {A B : Type 0} → (A → B) → Result A Fault → Outcome B
-outcome f (Ok a) = Read (f a)
-outcome f (Err e) = Refused (faultNumber e)
+abbrev pub answerOf : {A B : Type 0} → (A → B) → Result A MessageFault → Answer B
+answerOf f (Ok a) = Read (f a)
+answerOf f (Err e) = Fault (faultNumber e)
 
 -- a value and the bytes that follow it
 abbrev pub withRest : {A B : Type 0} → (A → B) → A × RefT (List ℕ) → B × List ℕ

@@ -11,7 +11,7 @@ use bytes::strip;
 
 // Why a message is refused.
 #[derive(Clone, Copy)]
-pub enum Fault {
+pub enum MessageFault {
     // it can't be read, or is over its limit
     Unreadable,
     // a name twice, or a value that isn't of its kind
