@@ -2,3 +2,4 @@ pub mod Names
 pub mod Named
 pub mod Turns
 pub mod Enough
+pub mod Back

@@ -1,6 +1,6 @@
 -- The lines of a message and their parts. Assumes nothing.
 use mathlib.Core.Bool.{Bool, true, false, cond, _&&_, _||_}
-use mathlib.Core.List.{List, [], _∷_}
+use mathlib.Core.List.{List, [], _∷_, _++_}
 use Prim.Native.Nat.{ℕ, zero, suc, _+_, _-_}
 use lib.Chars.{codes}
 use lib.Dec.{eqb, leb}
@@ -56,3 +56,7 @@ namesFrom next (Some p) = front (has Token) (p .0) ∷ next (p .1)
 unfoldable pub namesOf : ℕ → List ℕ → List (List ℕ)
 namesOf zero s = []
 namesOf (suc k) s = namesFrom (namesOf k) (lineThen s)
+
+-- the line of a field as it is written, without its end
+abbrev pub fieldText : List ℕ → List ℕ → List ℕ
+fieldText name v = name ++ (codes ": " ++ v)
