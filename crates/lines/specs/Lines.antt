@@ -7,8 +7,8 @@ use lib.Dec.{eqb, leb}
 use lib.ListN.{length, take}
 use Rattle.std.specs.declared.option.Option.{Option}
 use Rattle.std.specs.declared.option.Option.the-variants.{Some, None}
-use Rattle.std.specs.shelf.Lists.{ending}
-use Rattle.bytes.specs.declared.Class.the-variants.{Text, Token, Blank}
+use Rattle.std.specs.shelf.Lists.{leading, ending}
+use Rattle.bytes.specs.declared.Class.the-variants.{Text, Token, Blank, Visible}
 use Rattle.bytes.specs.Classes.{has}
 use Rattle.bytes.specs.Fronts.{andThen, after, front, past}
 
@@ -60,3 +60,7 @@ namesOf (suc k) s = namesFrom (namesOf k) (lineThen s)
 -- the line of a field as it is written, without its end
 abbrev pub fieldText : List ℕ → List ℕ → List ℕ
 fieldText name v = name ++ (codes ": " ++ v)
+
+-- a token that a server gives and is given back: 0 to 64 bytes from '!' to '~'
+abbrev pub tokenOk : List ℕ → Bool
+tokenOk v = leb (length v) 64 && eqb (leading (has Visible) v) (length v)

@@ -1,11 +1,12 @@
 // The lines of a message, and the fields that they hold.
 ghost use mathlib.Core.Path.{_≡_};
 ghost use Rattle.std.specs.Options.{mapped};
-ghost use Rattle.lines.specs.Lines.{lineThen, trimEnd, trim, fieldOf, small, sameName, among, namesOf};
+ghost use Rattle.lines.specs.Lines.{lineThen, trimEnd, trim, fieldOf, small, sameName, among, namesOf, tokenOk};
 pub mod heads;
 
 use bytes::Class;
 use bytes::is_of;
+use bytes::span;
 use bytes::split;
 use bytes::strip;
 
@@ -97,4 +98,11 @@ fn is_named(s: &[u8], k: usize, name: &[u8]) -> bool
         rest = next;
     }
     false
+}
+
+// Is it a token: 0 to 64 bytes from '!' to '~'?
+pub fn is_token(v: &[u8]) -> bool
+    ensures { λ r. ⌜ r ≡ tokenOk (now (v .entry)) ⌝ }
+{
+    v.len() <= 64 && span(Class::Visible, v) == v.len()
 }
