@@ -54,7 +54,7 @@ dot-names k s (Some t) q h rest =
     let g : 1 + leading (has Name) t ≡ suc (length t) = omega (arith, rest t h) in
     (λ i. leading (has Name) (z i)) ∙ g ∙ sym (λ i. length (z i))
 
-host-names : (k : ℕ) (s : List ℕ) → labels k s ≡ true → leading (has Name) s ≡ length s
+pub host-names : (k : ℕ) (s : List ℕ) → labels k s ≡ true → leading (has Name) s ≡ length s
 unfolding labels
 host-names zero s e = absurd (true≢false (sym e))
 host-names (suc k) s e =
@@ -70,7 +70,7 @@ pub record Ends (rest : List ℕ) : Type 0 where
   pub digit : leading (has Digit) rest ≡ 0
   pub colon : after (codes ":") rest ≡ None
 
-nothing-ends : Ends []
+pub nothing-ends : Ends []
 nothing-ends = record { name = refl; digit = refl; colon = refl }
 
 path-ends : (p : List ℕ) → pathOk p ≡ true → Ends p
@@ -89,14 +89,14 @@ module _ (n : ℕ) (rest : List ℕ) (some : 0 < n) (most : n ≤ 65535) (ends :
       ∙ ap (λ o. andThen o (λ m. Some (m, rest))) (port-decimal n some most)
 
   -- a port as it is written
-  port-back : portThen (portText n ++ rest) ≡ Some (n, rest)
+  pub port-back : portThen (portText n ++ rest) ≡ Some (n, rest)
   port-back =
       ⊎-elim
       (λ e. (λ i. portThen (cond-true (eqb n 443) [] (codes ":" ++ decimal n) e i ++ rest)) ∙ ap (λ o. portFrom o rest) (ends .colon) ∙ sym (λ i. Some (eqb-true n 443 e i, rest)))
       (λ e. (λ i. portThen (cond-false (eqb n 443) [] (codes ":" ++ decimal n) e i ++ rest)) ∙ port-out)
       (cases-bool (eqb n 443))
 
-  port-stops : leading (has Name) (portText n ++ rest) ≡ 0
+  pub port-stops : leading (has Name) (portText n ++ rest) ≡ 0
   port-stops = cond-both (eqb n 443) [] (codes ":" ++ decimal n) (λ t. leading (has Name) (t ++ rest) ≡ 0) (λ _. ends .name) (λ _. refl)
 
 -- a host, and t that has a port

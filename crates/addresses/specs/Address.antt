@@ -45,6 +45,10 @@ portThen s = portFrom (after (codes ":") s) s
 abbrev pub hostThen : List ℕ → List ℕ → Option (List ℕ × ℕ × List ℕ)
 hostThen h s = cond (labels 8 h) (andThen (portThen s) (λ p. Some (h, p .0, p .1))) None
 
+-- a host and a port within their rules
+abbrev pub siteOk : List ℕ → ℕ → Bool
+siteOk host port = labels 8 host && (ltb 0 port && leb port 65535)
+
 -- host and port at the front, and what follows
 abbrev pub siteThen : List ℕ → Option (List ℕ × ℕ × List ℕ)
 siteThen s = andThen (after (codes "https://") s) (λ t. hostThen (front (has Name) t) (past (has Name) t))

@@ -9,7 +9,7 @@ ghost use Rattle.bytes.specs.Buffers.{written, count};
 ghost use Rattle.bytes.specs.Classes.{has};
 ghost use Rattle.bytes.specs.Fronts.{front, past};
 ghost use Rattle.bytes.specs.declared.Class.the-variants.{Name};
-ghost use Rattle.addresses.specs.Address.{hostThen, siteThen, pathOk, readAddress, readSite};
+ghost use Rattle.addresses.specs.Address.{hostThen, siteThen, siteOk, pathOk, readAddress, readSite};
 ghost use Rattle.addresses.specs.Views.{answerOf, siteOf, addressOf};
 ghost use Rattle.addresses.specs.Written.{portText, siteText, SiteReadsBack, AddressReadsBack, AnyPortReads};
 use bytes::Class;
@@ -98,6 +98,13 @@ pub fn read_site(s: &[u8]) -> Option<Site<'_>>
         return None;
     }
     Some(Site { host, port })
+}
+
+// Are host and port within their rules?
+pub fn is_site(site: Site<'_>) -> bool
+    ensures { λ r. ⌜ r ≡ siteOk (now (site .entry .host)) (site .entry .port) ⌝ }
+{
+    is_host(site.host) && site.port > 0
 }
 
 // Two sites are one where host and port are the same.

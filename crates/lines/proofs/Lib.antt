@@ -3,3 +3,4 @@ pub mod Named
 pub mod Turns
 pub mod Enough
 pub mod Back
+pub mod Values

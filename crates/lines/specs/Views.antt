@@ -1,9 +1,11 @@
 -- What the code's results stand for. Assumes nothing.
-use mathlib.Core.List.{List}
+use mathlib.Core.List.{List, _++_}
 use Prim.Native.Nat.{ℕ}
 use denote.Ref.{RefT}
 use Rattle.std.specs.declared.result.Result.{Result}
 use Rattle.std.specs.declared.result.Result.the-variants.{Ok, Err}
+use Rattle.bytes.specs.Texts.{textOf}
+use Rattle.lines.specs.declared.written.Line.{Line}
 use Rattle.lines.specs.declared.MessageFault.{MessageFault}
 use Rattle.lines.specs.declared.MessageFault.the-variants.{Unreadable, Value}
 use Rattle.bytes.specs.Answers.{Answer, Read, Fault}
@@ -21,3 +23,7 @@ answerOf f (Err e) = Fault (faultNumber e)
 -- a value and the bytes that follow it
 abbrev pub withRest : {A B : Type 0} → (A → B) → A × RefT (List ℕ) → B × List ℕ
 withRest f p = (f (p .0), p .1 .now)
+
+-- the bytes of a line's pieces
+abbrev pub lineText : Line → List ℕ
+lineText l = l .name .now ++ (l .value .now ++ (textOf (l .port) ++ l .end .now))
