@@ -4,6 +4,9 @@ ghost use Rattle.std.specs.Options.{mapped};
 ghost use Rattle.lines.specs.Views.{answerOf};
 ghost use Rattle.answers.specs.Answers.{limit, Known, lengthField, tokenField, allowsOf, allowedField, taking, codeThen, statusThen, readAnswer};
 ghost use Rattle.answers.specs.Views.{allowsBy, knownOf, contentOf};
+pub mod seen;
+pub mod write;
+
 use addresses::Site;
 use addresses::read_site;
 use bytes::Class;

@@ -4,3 +4,4 @@ pub mod Turns
 pub mod Enough
 pub mod Back
 pub mod Values
+pub mod Pieces

@@ -26,4 +26,4 @@ withRest f p = (f (p .0), p .1 .now)
 
 -- the bytes of a line's pieces
 abbrev pub lineText : Line → List ℕ
-lineText l = l .name .now ++ (l .value .now ++ (textOf (l .port) ++ l .end .now))
+lineText l = l .start .now ++ (l .value .now ++ (textOf (l .digits) ++ l .end .now))
