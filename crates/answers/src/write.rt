@@ -2,10 +2,13 @@
 ghost use mathlib.Core.Path.{_≡_};
 ghost use mathlib.Core.Bool.{cond};
 ghost use Prim.Native.Nat.{_≤_};
-ghost use Rattle.std.specs.Options.{mapped};
+ghost use lib.ListN.{take};
+ghost use Rattle.std.specs.Options.{mapped, Cases as BySome};
 ghost use Rattle.std.specs.declared.option.Option.the-variants.{None};
+ghost use Rattle.bytes.specs.Answers.{Read};
 ghost use Rattle.bytes.specs.Buffers.{written, count};
 ghost use Rattle.lines.specs.Views.{lineText};
+ghost use Rattle.answers.specs.Answers.{readAnswer};
 ghost use Rattle.answers.specs.Views.{allowsBy, contentOf};
 ghost use Rattle.answers.specs.Written.{threeDigits, tokenLine, allowedLine, answerText, tokenFits, allowsFits, canWrite};
 use addresses::is_site;
@@ -74,6 +77,7 @@ fn can_write(kind: Kind, a: Response<'_>) -> bool
 pub fn write_answer(out: &mut [u8], kind: Kind, a: Response<'_>) -> Option<usize>
     ensures answer { λ r. ⌜ r ≡ cond (canWrite kind (contentOf (a .entry))) (count (answerText (contentOf (a .entry))) (now (out .entry))) None ⌝ }
     ensures after { λ _. ⌜ now (out .exit) ≡ cond (canWrite kind (contentOf (a .entry))) (written (answerText (contentOf (a .entry))) (now (out .entry))) (now (out .entry)) ⌝ }
+    ensures back { λ r. ⌜ BySome r (Unit {0}) (λ n. readAnswer kind (take n (now (out .exit))) ≡ Read (contentOf (a .entry))) ⌝ }
 {
     if !can_write(kind, a) {
         return None;
