@@ -23,13 +23,13 @@ use Rattle.bytes.proofs.Numbers.{number-digits, number-decimal}
 use Rattle.addresses.specs.Address.{siteOk, readSite}
 use Rattle.addresses.specs.Written.{siteText}
 use Rattle.lines.specs.Heads.{readThen, head}
-use Rattle.lines.specs.Lines.{crlf, lineThen, fieldText, among, tokenOk}
+use Rattle.lines.specs.Lines.{crlf, lineThen, fieldText, among, tokenOk, tokenFits, tokenLine, lengthLine}
 use Rattle.lines.proofs.Back.{line-back, field-then, fields-end}
 use Rattle.lines.proofs.Values.{decimal-digits, decimal-visible, site-visible, site-back}
 use Rattle.answers.specs.declared.Kind.{Kind}
 use Rattle.answers.specs.declared.Kind.the-variants.{Asked, Page}
 use Rattle.answers.specs.Answers.{limit, Allows, All, Only, Known, unknown, lengthField, lengthFrom, tokenField, allowsOf, allowedField, taking, codeThen, statusThen, Content, bodyOf, answerFrom, readAnswer}
-use Rattle.answers.specs.Written.{threeDigits, tokenLine, allowsText, allowedLine, lengthLine, answerText, tokenFits, allowsFits, canWrite, AnswerReadsBack}
+use Rattle.answers.specs.Written.{threeDigits, allowsText, allowedLine, answerText, allowsFits, canWrite, AnswerReadsBack}
 use Rattle.answers.proofs.Digits.{three-back}
 
 -- the status line
@@ -61,7 +61,7 @@ allowedNames names (Some a) = names ++ (codes "access-control-allow-origin" ∷ 
 abbrev left : List (List ℕ) → Known → List ℕ → Answer (Known × List ℕ)
 left names f s = head taking (length s) names f s
 
-token-then : (kind : Kind) (t : Option (List ℕ)) (rest : List ℕ) → tokenFits t ≡ true → left [] (unknown kind) (tokenLine t ++ rest) ≡ left (tokenNames t) (known kind None t None) rest
+token-then : (kind : Kind) (t : Option (List ℕ)) (rest : List ℕ) → tokenFits t ≡ true → left [] (unknown kind) (tokenLine (codes "set-cookie: ") t ++ rest) ≡ left (tokenNames t) (known kind None t None) rest
 token-then kind None rest ok = refl
 token-then kind (Some t) rest ok =
     let visible = eqb-true (leading (has Visible) t) (length t) (and-parts (leb (length t) 64) (eqb (leading (has Visible) t) (length t)) ok .1) in
@@ -126,7 +126,7 @@ answer-back kind a ok =
     let rest2 = lengthLine (a .body) ++ a .body in
     let rest1 = allowedLine (a .allowed) ++ rest2 in
     let n = length (a .body) in
-    ap (answerFrom kind) (status-back (a .code) (tokenLine (a .token) ++ rest1) (leb-true (a .code) 999 (p .0)))
+    ap (answerFrom kind) (status-back (a .code) (tokenLine (codes "set-cookie: ") (a .token) ++ rest1) (leb-true (a .code) 999 (p .0)))
     ∙ ap (λ o. readThen o (λ h. bodyOf (a .code) (h .0) (h .0 .length) (h .1)))
         (token-then kind (a .token) rest1 (q .0) ∙ allowed-then kind (a .token) (a .allowed) rest2 (r .0) ∙ body-then kind (a .token) (a .allowed) (a .body) (leb-true n (limit kind) (r .1)))
     ∙ cond-true (eqb n n) (Read a) (Fault 6) (eq-eqb n n refl)

@@ -8,22 +8,16 @@ use lib.Dec.{leb}
 use lib.ListN.{length}
 use Rattle.std.specs.declared.option.Option.{Option}
 use Rattle.std.specs.declared.option.Option.the-variants.{Some, None}
-use Rattle.std.specs.Written.{decimal}
 use Rattle.bytes.specs.Answers.{Read}
 use Rattle.addresses.specs.Address.{siteOk}
 use Rattle.addresses.specs.Written.{siteText}
-use Rattle.lines.specs.Lines.{crlf, fieldText, tokenOk}
+use Rattle.lines.specs.Lines.{crlf, fieldText, tokenFits, tokenLine, lengthLine}
 use Rattle.answers.specs.declared.Kind.{Kind}
 use Rattle.answers.specs.Answers.{limit, Allows, All, Only, Content, readAnswer}
 
 -- a number below 1,000 in three digits
 abbrev pub threeDigits : ℕ → List ℕ
 threeDigits n = (48 + n / 100) ∷ ((48 + n / 10 % 10) ∷ ((48 + n % 10) ∷ []))
-
--- the line of a new token, if there is one
-abbrev pub tokenLine : Option (List ℕ) → List ℕ
-tokenLine None = []
-tokenLine (Some t) = fieldText (codes "set-cookie") t ++ crlf
 
 abbrev pub allowsText : Allows → List ℕ
 allowsText All = codes "*"
@@ -34,19 +28,11 @@ abbrev pub allowedLine : Option Allows → List ℕ
 allowedLine None = []
 allowedLine (Some a) = fieldText (codes "access-control-allow-origin") (allowsText a) ++ crlf
 
--- the length of the body, and the empty line
-abbrev pub lengthLine : List ℕ → List ℕ
-lengthLine body = codes "content-length: " ++ (decimal (length body) ++ (crlf ++ crlf))
-
 -- an answer, with no reason after its code
 abbrev pub answerText : Content → List ℕ
 answerText a =
     (codes "HTTP/1.1 " ++ (threeDigits (a .code) ++ (codes " " ++ crlf)))
-    ++ (tokenLine (a .token) ++ (allowedLine (a .allowed) ++ (lengthLine (a .body) ++ a .body)))
-
-abbrev pub tokenFits : Option (List ℕ) → Bool
-tokenFits None = true
-tokenFits (Some t) = tokenOk t
+    ++ (tokenLine (codes "set-cookie: ") (a .token) ++ (allowedLine (a .allowed) ++ (lengthLine (a .body) ++ a .body)))
 
 abbrev pub allowsFits : Option Allows → Bool
 allowsFits None = true

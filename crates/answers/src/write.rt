@@ -10,13 +10,13 @@ ghost use Rattle.bytes.specs.Buffers.{written, count};
 ghost use Rattle.lines.specs.Views.{lineText};
 ghost use Rattle.answers.specs.Answers.{readAnswer};
 ghost use Rattle.answers.specs.Views.{allowsBy, contentOf};
-ghost use Rattle.answers.specs.Written.{threeDigits, tokenLine, allowedLine, answerText, tokenFits, allowsFits, canWrite};
+ghost use Rattle.answers.specs.Written.{threeDigits, allowedLine, answerText, allowsFits, canWrite};
 use addresses::is_site;
 use crate::Allowed;
 use crate::Kind;
 use crate::Response;
 use crate::limit_of;
-use lines::is_token;
+use lines::token_fits;
 use lines::written::Line;
 use lines::written::put_message;
 
@@ -25,15 +25,6 @@ fn three_digits(n: u16) -> [u8; 3]
     ensures { λ r. ⌜ r ≡ threeDigits n ⌝ }
 {
     [48 + (n / 100) as u8, 48 + (n / 10 % 10) as u8, 48 + (n % 10) as u8]
-}
-
-fn token_line(token: Option<&[u8]>) -> Line<'_>
-    ensures { λ r. ⌜ lineText r ≡ tokenLine (mapped now (token .entry)) ⌝ }
-{
-    let Some(t) = token else {
-        return Line::none();
-    };
-    Line::of(b"set-cookie: ", t, b"\r\n")
 }
 
 fn allowed_line(allowed: Option<Allowed<'_>>) -> Line<'_>
@@ -46,15 +37,6 @@ fn allowed_line(allowed: Option<Allowed<'_>>) -> Line<'_>
         return Line::of(b"access-control-allow-origin: ", b"*", b"\r\n");
     };
     Line::of_site(b"access-control-allow-origin: https://", site)
-}
-
-fn token_fits(token: Option<&[u8]>) -> bool
-    ensures { λ r. ⌜ r ≡ tokenFits (mapped now (token .entry)) ⌝ }
-{
-    match token {
-        Some(t) => is_token(t),
-        None => true,
-    }
 }
 
 fn allowed_fits(allowed: Option<Allowed<'_>>) -> bool
@@ -84,7 +66,7 @@ pub fn write_answer(out: &mut [u8], kind: Kind, a: Response<'_>) -> Option<usize
     }
     let code = three_digits(a.code);
     let status = Line::of(b"HTTP/1.1 ", &code, b" \r\n");
-    let token = token_line(a.token);
+    let token = Line::of_token(b"set-cookie: ", a.token);
     let allowed = allowed_line(a.allowed);
     let length = Line::of_number(b"content-length: ", a.body.len() as u64, b"\r\n\r\n");
     put_message(out, &status, &token, &allowed, &Line::none(), &length, a.body)

@@ -7,6 +7,7 @@ use lib.Dec.{eqb, leb}
 use lib.ListN.{length, take}
 use Rattle.std.specs.declared.option.Option.{Option}
 use Rattle.std.specs.declared.option.Option.the-variants.{Some, None}
+use Rattle.std.specs.Written.{decimal}
 use Rattle.std.specs.shelf.Lists.{leading, ending}
 use Rattle.bytes.specs.declared.Class.the-variants.{Text, Token, Blank, Visible}
 use Rattle.bytes.specs.Classes.{has}
@@ -64,3 +65,16 @@ fieldText name v = name ++ (codes ": " ++ v)
 -- a token that a server gives and is given back: 0 to 64 bytes from '!' to '~'
 abbrev pub tokenOk : List ℕ → Bool
 tokenOk v = leb (length v) 64 && eqb (leading (has Visible) v) (length v)
+
+abbrev pub tokenFits : Option (List ℕ) → Bool
+tokenFits None = true
+tokenFits (Some t) = tokenOk t
+
+-- the line of a token, by what it starts with, if there is one
+abbrev pub tokenLine : List ℕ → Option (List ℕ) → List ℕ
+tokenLine start None = []
+tokenLine start (Some t) = start ++ (t ++ crlf)
+
+-- the length of the body, and the empty line
+abbrev pub lengthLine : List ℕ → List ℕ
+lengthLine body = codes "content-length: " ++ (decimal (length body) ++ (crlf ++ crlf))

@@ -1,7 +1,7 @@
 // The lines of a message, and the fields that they hold.
 ghost use mathlib.Core.Path.{_≡_};
 ghost use Rattle.std.specs.Options.{mapped};
-ghost use Rattle.lines.specs.Lines.{lineThen, trimEnd, trim, fieldOf, small, sameName, among, namesOf, tokenOk};
+ghost use Rattle.lines.specs.Lines.{lineThen, trimEnd, trim, fieldOf, small, sameName, among, namesOf, tokenOk, tokenFits};
 pub mod heads;
 pub mod written;
 
@@ -106,4 +106,14 @@ pub fn is_token(v: &[u8]) -> bool
     ensures { λ r. ⌜ r ≡ tokenOk (now (v .entry)) ⌝ }
 {
     v.len() <= 64 && span(Class::Visible, v) == v.len()
+}
+
+// Is it a token, if there is one?
+pub fn token_fits(token: Option<&[u8]>) -> bool
+    ensures { λ r. ⌜ r ≡ tokenFits (mapped now (token .entry)) ⌝ }
+{
+    match token {
+        Some(t) => is_token(t),
+        None => true,
+    }
 }

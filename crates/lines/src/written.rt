@@ -1,10 +1,11 @@
 // Messages written line by line into a lent buffer.
 ghost use mathlib.Core.Path.{_≡_};
 ghost use mathlib.Core.List.{[], _++_};
+ghost use Rattle.std.specs.Options.{mapped};
 ghost use Rattle.std.specs.Written.{decimal};
 ghost use Rattle.addresses.specs.Written.{portText};
 ghost use Rattle.bytes.specs.Buffers.{written, count};
-ghost use Rattle.lines.specs.Lines.{crlf};
+ghost use Rattle.lines.specs.Lines.{crlf, tokenLine};
 ghost use Rattle.lines.specs.Views.{lineText};
 use addresses::Site;
 use addresses::port_text;
@@ -37,6 +38,16 @@ impl<'a> Line<'a> {
         ensures { λ r. ⌜ lineText r ≡ now (start .entry) ++ (decimal n ++ now (end .entry)) ⌝ }
     {
         Line { start, value: b"", digits: SmallText::decimal(n), end }
+    }
+
+    // The line of a token, if there is one.
+    pub fn of_token(start: &'a [u8], token: Option<&'a [u8]>) -> Line<'a>
+        ensures { λ r. ⌜ lineText r ≡ tokenLine (now (start .entry)) (mapped now (token .entry)) ⌝ }
+    {
+        let Some(t) = token else {
+            return Line::none();
+        };
+        Line::of(start, t, b"\r\n")
     }
 
     // The site's host, and its port unless it is 443.

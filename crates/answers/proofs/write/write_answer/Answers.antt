@@ -17,7 +17,7 @@ pub returns : need.returns
 returns c =
     let body = c .args .a .body .now in
     let status = c .of-status .ensures ∙ ap (λ l. codes "HTTP/1.1 " ++ (l ++ (codes " " ++ crlf))) (c .three-digits-code .ensures) in
-    let e : lineText (c .of-status .result) ++ (lineText (c .token-line-token .result) ++ (lineText (c .allowed-line-allowed .result) ++ (lineText (c .none .result) ++ (lineText (c .of-number-length .result) ++ body)))) ≡ answerText (contentOf (c .args .a)) = λ i. status i ++ (c .token-line-token .ensures i ++ (c .allowed-line-allowed .ensures i ++ (c .none .ensures i ++ (c .of-number-length .ensures i ++ body)))) in
+    let e : lineText (c .of-status .result) ++ (lineText (c .of-token-token .result) ++ (lineText (c .allowed-line-allowed .result) ++ (lineText (c .none .result) ++ (lineText (c .of-number-length .result) ++ body)))) ≡ answerText (contentOf (c .args .a)) = λ i. status i ++ (c .of-token-token .ensures i ++ (c .allowed-line-allowed .ensures i ++ (c .none .ensures i ++ (c .of-number-length .ensures i ++ body)))) in
     let text = answerText (contentOf (c .args .a)) in
     let out = c .args .out .now in
     let answer : c .put-message .result ≡ count text out = c .put-message .ensures .answer ∙ ap (λ t. count t out) e in
