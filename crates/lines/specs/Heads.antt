@@ -42,6 +42,6 @@ head taking (suc k) names f s = headThen taking (head taking k) names f (lineThe
 abbrev pub fields : {F : Type 0} → Taking F → F → List ℕ → Answer (F × List ℕ)
 fields taking f s = head taking (length s) [] f s
 
--- more lines than bytes change nothing
+-- more lines than bytes change nothing: the bound never is why a message is refused
 abbrev pub Enough : Type 0 → Type 0
 Enough F = (taking : Taking F) (k : ℕ) (names : List (List ℕ)) (f : F) (s : List ℕ) → length s ≤ k → head taking k names f s ≡ head taking (length s) names f s

@@ -3,7 +3,7 @@ ghost use mathlib.Core.Path.{_≡_};
 ghost use mathlib.Core.List.{List};
 ghost use Prim.Native.Nat.{ℕ};
 ghost use Rattle.bytes.specs.Answers.{Answer};
-ghost use Rattle.lines.specs.Heads.{fields, fieldTaken};
+ghost use Rattle.lines.specs.Heads.{fields, fieldTaken, Enough};
 ghost use Rattle.lines.specs.Lines.{namesOf};
 ghost use Rattle.lines.specs.Views.{answerOf, withRest};
 use crate::MessageFault;
@@ -42,7 +42,8 @@ fn take_field<'a, F: Fields<'a>>(fields: F, s: &'a [u8], k: usize, name: &'a [u8
 
 // All fields up to the empty line, and what follows it.
 pub fn read_fields<'a, F: Fields<'a>>(none: F, s: &'a [u8]) -> Result<(F, &'a [u8]), MessageFault>
-    ensures { λ r. ⌜ answerOf (withRest (F·Fields .known)) r ≡ fields (F·Fields .taking) (F·Fields .known none) (now (s .entry)) ⌝ }
+    ensures is { λ r. ⌜ answerOf (withRest (F·Fields .known)) r ≡ fields (F·Fields .taking) (F·Fields .known none) (now (s .entry)) ⌝ }
+    ensures enough { λ _. ⌜ Enough (F·Fields .Known) ⌝ }
 {
     let mut known = none;
     let mut rest = s;
