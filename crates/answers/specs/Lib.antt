@@ -1,0 +1,4 @@
+pub mod Answers
+pub mod Seen
+pub mod Written
+pub mod Views

@@ -1,0 +1,5 @@
+pub mod Options
+pub mod Fronts
+pub mod Numbers
+pub mod Digits
+pub mod Puts

@@ -1,0 +1,59 @@
+-- Pieces written one after another. Assumes nothing.
+use mathlib.Core.Path.{_≡_, refl, sym, ap, _∙_}
+use mathlib.Core.Bool.{Bool, true, false}
+use mathlib.Core.List.{List, [], _∷_, _++_, append-assoc}
+use Prim.Native.Nat.{ℕ, _+_, _-_, _<_, _≤_}
+use native.Mathlib.Nat.{add-zero, zero-add}
+use native.Mathlib.Omega.{arith}
+use denote.Ref.{RefT, now}
+use borrow.Rule.Slice.PartMut.{putMid}
+use lib.Dec.{leb}
+use lib.ListN.{length, take, drop, getD, length-append}
+use Rattle.std.specs.Joined.{joined}
+use Rattle.std.proofs.shelf.Lists.{at-drop-more, at-drop-all, take-append-drop}
+use Rattle.std.proofs.shelf.Parts.{take-putMid, drop-putMid}
+use Rattle.std.proofs.shelf.Ways.{tells}
+
+abbrev pub Pieces : Type 0
+Pieces = List (RefT (List ℕ))
+
+-- what pieces come to
+abbrev pub textOf : Pieces → List ℕ
+textOf ps = joined now ps
+
+-- room for the first piece, and for the others
+pub fits-more : (p q : List ℕ) (room : ℕ) → length p ≤ room → leb (length (p ++ q)) room ≡ leb (length q) (room - length p)
+fits-more p q room h = let e = length-append p q in grind (arith, tells)
+
+pub fits-not : (p q : List ℕ) (room : ℕ) → room < length p → leb (length (p ++ q)) room ≡ false
+fits-not p q room h = let e = length-append p q in grind (arith, tells)
+
+-- what a buffer holds once a text is written to it from a place on
+abbrev pub over : ℕ → List ℕ → List ℕ → List ℕ
+over at xs t = take at xs ++ (t ++ drop (at + length t) xs)
+
+pub over-more : (a : ℕ) (xs p t : List ℕ) → a + length p ≤ length xs → over (a + length p) (putMid a (length p) xs p) t ≡ over a xs (p ++ t)
+over-more a xs p t h =
+    let front : take (a + length p) (putMid a (length p) xs p) ≡ take a xs ++ p = take-putMid a (length p) xs p (a + length p) refl (omega arith) in
+    let back : drop (a + length p + length t) (putMid a (length p) xs p) ≡ drop (a + length p + length t) xs = drop-putMid a (length p) xs p (a + length p + length t) (omega arith) (omega arith) refl in
+    let place : a + length p + length t ≡ a + length (p ++ t) = omega (arith, length-append p t) in
+    (λ i. front i ++ (t ++ back i)) ∙ append-assoc (take a xs) p (t ++ drop (a + length p + length t) xs) ∙ ap (λ l. take a xs ++ l) (sym (append-assoc p t (drop (a + length p + length t) xs))) ∙ ap (λ n. take a xs ++ ((p ++ t) ++ drop n xs)) place
+
+pub over-none : (a : ℕ) (xs : List ℕ) → over a xs [] ≡ xs
+over-none a xs = ap (λ n. take a xs ++ drop n xs) (add-zero a) ∙ take-append-drop a xs
+
+pub over-start : (xs t : List ℕ) → over 0 xs t ≡ t ++ drop (length t) xs
+over-start xs t = ap (λ n. t ++ drop n xs) (zero-add (length t))
+
+-- what the checker reads past the end of the pieces
+abbrev pub nil : RefT (List ℕ)
+nil = record { ptr = (0, 0); name = 0; now = [] }
+
+pub text-more : (ps : Pieces) (i : ℕ) → i < length ps → textOf (drop i ps) ≡ getD ps i nil .now ++ textOf (drop (i + 1) ps)
+text-more ps i h = at-drop-more textOf ps i nil h
+
+pub text-all : (ps : Pieces) (i : ℕ) → length ps ≤ i → textOf (drop i ps) ≡ []
+text-all ps i h = at-drop-all textOf ps i h
+
+pub text-long : (ps : Pieces) (i : ℕ) → i < length ps → length (textOf (drop i ps)) ≡ length (getD ps i nil .now) + length (textOf (drop (i + 1) ps))
+text-long ps i h = ap length (text-more ps i h) ∙ length-append (getD ps i nil .now) (textOf (drop (i + 1) ps))

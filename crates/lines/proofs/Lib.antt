@@ -1,0 +1,7 @@
+pub mod Names
+pub mod Named
+pub mod Turns
+pub mod Enough
+pub mod Back
+pub mod Values
+pub mod Pieces

@@ -1,0 +1,69 @@
+// The fields of a message, read line by line up to the empty line.
+ghost use mathlib.Core.Path.{_≡_};
+ghost use mathlib.Core.List.{List};
+ghost use Prim.Native.Nat.{ℕ};
+ghost use Rattle.bytes.specs.Answers.{Answer};
+ghost use Rattle.lines.specs.Heads.{fields, fieldTaken, Enough};
+ghost use Rattle.lines.specs.Lines.{namesOf};
+ghost use Rattle.lines.specs.Views.{answerOf, withRest};
+use crate::MessageFault;
+use crate::field_of;
+use crate::is_named;
+use crate::line_then;
+
+// What the fields of a message say, taken one after another.
+pub trait Fields<'a>: Sized + Copy {
+    // what is known so far, as plain values
+    ghost Known: { Type 0 };
+
+    ghost known: { Self → Known };
+
+    // what is known after one more name and value
+    ghost taking: { Known → List ℕ → List ℕ → Answer Known };
+
+    fn take(self, name: &[u8], value: &'a [u8]) -> Result<Self, MessageFault>
+        ensures { λ r. ⌜ answerOf known r ≡ taking (known self) (now (name .entry)) (now (value .entry)) ⌝ };
+}
+
+// One field more; the first k lines of s are before it.
+fn take_field<'a, F: Fields<'a>>(fields: F, s: &'a [u8], k: usize, name: &'a [u8], value: &'a [u8]) -> Result<F, MessageFault>
+    ensures { λ r. ⌜ answerOf (F·Fields .known) r ≡ fieldTaken (F·Fields .taking) (namesOf k (now (s .entry))) (F·Fields .known fields) (now (name .entry), now (value .entry)) ⌝ }
+{
+    match fields.take(name, value) {
+        Ok(next) => {
+            if is_named(s, k, name) {
+                return Err(MessageFault::Value);
+            }
+            Ok(next)
+        }
+        Err(e) => Err(e),
+    }
+}
+
+// All fields up to the empty line, and what follows it.
+pub fn read_fields<'a, F: Fields<'a>>(none: F, s: &'a [u8]) -> Result<(F, &'a [u8]), MessageFault>
+    ensures is { λ r. ⌜ answerOf (withRest (F·Fields .known)) r ≡ fields (F·Fields .taking) (F·Fields .known none) (now (s .entry)) ⌝ }
+    ensures enough { λ _. ⌜ Enough (F·Fields .Known) ⌝ }
+{
+    let mut known = none;
+    let mut rest = s;
+    for k in 0..s.len() {
+        let Some((line, next)) = line_then(rest) else {
+            return Err(MessageFault::Unreadable);
+        };
+        if line.is_empty() {
+            return Ok((known, next));
+        }
+        let Some((name, value)) = field_of(line) else {
+            return Err(MessageFault::Unreadable);
+        };
+        match take_field(known, s, k, name, value) {
+            Ok(more) => {
+                known = more;
+                rest = next;
+            }
+            Err(e) => return Err(e),
+        }
+    }
+    Err(MessageFault::Unreadable)
+}
