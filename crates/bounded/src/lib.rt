@@ -1,0 +1,3 @@
+// Bytes by value: at most so many, with no memory claimed.
+pub mod make;
+pub mod text;
