@@ -4,6 +4,7 @@ ghost use Rattle.std.specs.Options.{mapped};
 ghost use Rattle.lines.specs.Views.{answerOf};
 ghost use Rattle.answers.specs.Answers.{limit, Known, lengthField, tokenField, allowsOf, allowedField, taking, codeThen, statusThen, readAnswer};
 ghost use Rattle.answers.specs.Views.{allowsBy, knownOf, contentOf};
+
 pub mod seen;
 pub mod write;
 
@@ -71,7 +72,12 @@ fn length_field<'a>(h: Heads<'a>, v: &[u8]) -> Result<Heads<'a>, MessageFault>
     let Some(n) = read_number(v, limit_of(h.kind)) else {
         return Err(MessageFault::Unreadable);
     };
-    Ok(Heads { kind: h.kind, length: Some(n), token: h.token, allowed: h.allowed })
+    Ok(Heads {
+        kind: h.kind,
+        length: Some(n),
+        token: h.token,
+        allowed: h.allowed,
+    })
 }
 
 fn token_field<'a>(h: Heads<'a>, v: &'a [u8]) -> Result<Heads<'a>, MessageFault>
@@ -80,7 +86,12 @@ fn token_field<'a>(h: Heads<'a>, v: &'a [u8]) -> Result<Heads<'a>, MessageFault>
     if !is_token(v) {
         return Err(MessageFault::Value);
     }
-    Ok(Heads { kind: h.kind, length: h.length, token: Some(v), allowed: h.allowed })
+    Ok(Heads {
+        kind: h.kind,
+        length: h.length,
+        token: Some(v),
+        allowed: h.allowed,
+    })
 }
 
 fn allowed_of(v: &[u8]) -> Option<Allowed<'_>>
@@ -101,7 +112,12 @@ fn allowed_field<'a>(h: Heads<'a>, v: &'a [u8]) -> Result<Heads<'a>, MessageFaul
     let Some(a) = allowed_of(v) else {
         return Err(MessageFault::Value);
     };
-    Ok(Heads { kind: h.kind, length: h.length, token: h.token, allowed: Some(a) })
+    Ok(Heads {
+        kind: h.kind,
+        length: h.length,
+        token: h.token,
+        allowed: Some(a),
+    })
 }
 
 pub impl<'a> Fields<'a> for Heads<'a> as HeadFields {
@@ -163,7 +179,12 @@ pub fn read_answer<'a>(kind: Kind, s: &'a [u8]) -> Result<Response<'a>, MessageF
     let Some((code, rest)) = status_then(s) else {
         return Err(MessageFault::Unreadable);
     };
-    let none = Heads { kind, length: None, token: None, allowed: None };
+    let none = Heads {
+        kind,
+        length: None,
+        token: None,
+        allowed: None,
+    };
     let (h, body) = match read_fields(none, rest) {
         Ok(p) => p,
         Err(e) => return Err(e),
@@ -174,5 +195,10 @@ pub fn read_answer<'a>(kind: Kind, s: &'a [u8]) -> Result<Response<'a>, MessageF
     if body.len() != n as usize {
         return Err(MessageFault::Unreadable);
     }
-    Ok(Response { code, token: h.token, allowed: h.allowed, body })
+    Ok(Response {
+        code,
+        token: h.token,
+        allowed: h.allowed,
+        body,
+    })
 }

@@ -26,7 +26,13 @@ pub trait Fields<'a>: Sized + Copy {
 }
 
 // One field more; the first k lines of s are before it.
-fn take_field<'a, F: Fields<'a>>(fields: F, s: &'a [u8], k: usize, name: &'a [u8], value: &'a [u8]) -> Result<F, MessageFault>
+fn take_field<'a, F: Fields<'a>>(
+    fields: F,
+    s: &'a [u8],
+    k: usize,
+    name: &'a [u8],
+    value: &'a [u8],
+) -> Result<F, MessageFault>
     ensures { λ r. ⌜ answerOf (F·Fields .known) r ≡ fieldTaken (F·Fields .taking) (namesOf k (now (s .entry))) (F·Fields .known fields) (now (name .entry), now (value .entry)) ⌝ }
 {
     match fields.take(name, value) {

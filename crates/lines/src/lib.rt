@@ -2,6 +2,7 @@
 ghost use mathlib.Core.Path.{_≡_};
 ghost use Rattle.std.specs.Options.{mapped};
 ghost use Rattle.lines.specs.Lines.{lineThen, trimEnd, trim, fieldOf, small, sameName, among, namesOf, tokenOk, tokenFits};
+
 pub mod heads;
 pub mod written;
 

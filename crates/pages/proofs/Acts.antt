@@ -16,13 +16,10 @@ use Rattle.pages.specs.Laws.{toldBy}
 use Rattle.pages.proofs.Places.{isOf-change, Sited, hears-site, hears-not, at-hidden, at-same}
 use Rattle.pages.proofs.Same.{SameWindow, both-own, one-other, SameBut, none, pair, same-window, same-refl, same-join, same-length, same-change, same-done, hidden-change, SameFound, nobody, somebody, same-nth, same-site}
 use Rattle.pages.proofs.Close.{Close, close-refl, close-sym, close-trans, told-same}
+use Rattle.pages.proofs.Turns.{does}
 use Rattle.pages.proofs.Shown.{shown, answered-let, visible, back, own-back, theirs, other-theirs, other-lets}
 
 module _ {S R : Type 0} where
-  -- an act, whole, in a world in which the script has run
-  abbrev pub does : Sites S R → ℕ → ℕ → Act → World S R → World S R
-  does p i s a w = exchanged p (TurnOf i) (needsBy s a (w .part)) (acted i s a (w .part)) (w .servers)
-
   abbrev pub replyDone : Sites S R → ℕ → Act → World S R → Reply
   replyDone p s a w = replyTo p (needsBy s a (w .part)) (w .servers)
 

@@ -12,6 +12,7 @@ use Rattle.pages.specs.Browser.{Window, World, nth, change, actOf, stepped, ow
 use Rattle.pages.specs.Outs.{What, Asked, Said, Let, Out, out, isOf, letBy, outsBy, outsOf, replyTo, outs, keepOnly}
 use Rattle.pages.specs.Laws.{Every, asking, MayLetOut, asked, said, opened, let-see, toldBy, LetOutOnly, ElseNothing, ToldIsLetOut}
 use Rattle.pages.proofs.Places.{nth-change}
+use Rattle.pages.proofs.Turns.{turn-is}
 
 module _ {S : Type 0} where
   -- a window that is there and of site t
@@ -54,14 +55,6 @@ module _ {S R : Type 0} where
     only-by Looks e = tt
     only-by (Opens t h) e = (opened t h e, tt)
 
-  -- a turn of window x, by its act
-  pub turn-is :
-      (p : Sites S R) (w : World S R) (i : ℕ) (x : Window S) (a : Act) → nth i (w .part .windows) ≡ Some x → actOf (p .scripts) x ≡ a →
-      happens p (TurnOf i) w ≡ exchanged p (TurnOf i) (needsBy (x .site) a (w .part)) (acted i (x .site) a (with-windows (change i (stepped (p .scripts)) (w .part .windows)) (w .part))) (w .servers)
-  turn-is p w i x a e d =
-      ap (λ f. exchanged p (TurnOf i) (needsOf (p .scripts) f (w .part)) (begunBy (p .scripts) i f (w .part)) (w .servers)) e
-      ∙ ap (λ b. exchanged p (TurnOf i) (needsBy (x .site) b (w .part)) (acted i (x .site) b (with-windows (change i (stepped (p .scripts)) (w .part .windows)) (w .part))) (w .servers)) d
-
   outs-are :
       (p : Sites S R) (w : World S R) (i : ℕ) (x : Window S) (a : Act) → nth i (w .part .windows) ≡ Some x → actOf (p .scripts) x ≡ a →
       outs p (TurnOf i) w ≡ outsBy (w .part .windows) (x .site) a (replyTo p (needsBy (x .site) a (w .part)) (w .servers))
@@ -103,6 +96,6 @@ module _ (S R : Type 0) where
   pub told-is-let-out : ToldIsLetOut S R
   told-is-let-out p w i x t h d e a n =
       let r : Reply = p .serve (asking w (x .site) t h d) (w .servers t) .reply in
-      ap (λ u. nth i (u .part .windows)) (turn-is p w i x (Asks t h d) e a)
+      ap (λ u. nth i (u .part .windows)) (turn-is p i x w e (Asks t h d) a)
       ∙ nth-change i (owns (answered (x .site) t r)) (change i (stepped (p .scripts)) (w .part .windows)) (stepped (p .scripts) x) (nth-change i (stepped (p .scripts)) (w .part .windows) x e)
       ∙ ap {B = Option (Window S)} (λ m. Some (owns m (stepped (p .scripts) x))) (told-asked (x .site) t h d r n ∙ ap (λ os. toldBy t (from t os)) (sym (outs-are p w i x (Asks t h d) e a)))

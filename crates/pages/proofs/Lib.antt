@@ -2,6 +2,7 @@ pub mod Places
 pub mod Same
 pub mod Close
 pub mod Shown
+pub mod Turns
 pub mod Acts
 pub mod Steps
 pub mod Whole
@@ -13,6 +14,6 @@ pub mod NamedSites
 pub mod LastKept
 pub mod TrueWords
 pub mod Numbered
-pub mod Turns
 pub mod Effects
 pub mod Readings
+pub mod Rounds

@@ -14,14 +14,11 @@ use Rattle.pages.specs.Promise.{Others}
 use Rattle.pages.proofs.Places.{nth-change, change-length, isOf-change, Sited, sited-this}
 use Rattle.pages.proofs.Same.{SameWindow, both-own, one-other, SameFound, nobody, somebody, same-change, same-done, same-nth}
 use Rattle.pages.proofs.Close.{Close}
+use Rattle.pages.proofs.Turns.{afterRun, does}
 use Rattle.pages.proofs.Shown.{shown, visible, own-lets}
-use Rattle.pages.proofs.Acts.{does, replyDone, outsDone, Result, SameResult, result-sym, result-trans, done, hide, does-same, page-same, opening-same}
+use Rattle.pages.proofs.Acts.{replyDone, outsDone, Result, SameResult, result-sym, result-trans, done, hide, does-same, page-same, opening-same}
 
 module _ {S R : Type 0} where
-  -- the world in which the act of window i is done: its script has run
-  abbrev ranAt : Sites S R → ℕ → World S R → World S R
-  ranAt p i w = record { part = with-windows (change i (stepped (p .scripts)) (w .part .windows)) (w .part); servers = w .servers }
-
   -- what comes of a turn, by the window that is there
   abbrev turned : Sites S R → ℕ → Option (Window S) → World S R → Result S R
   turned p i f w = record { world = exchanged p (TurnOf i) (needsOf (p .scripts) f (w .part)) (begunBy (p .scripts) i f (w .part)) (w .servers); outs = outsOf p f w; request = needsOf (p .scripts) f (w .part) }
@@ -33,12 +30,12 @@ module _ {S R : Type 0} where
   -- what an act needs and lets out is the same before and after the script has run
   turn-act : (p : Sites S R) (i s : ℕ) (w : World S R) (a : Act) →
       _≡_ {A = Result S R}
-      (record { world = exchanged p (TurnOf i) (needsBy s a (w .part)) (acted i s a (ranAt p i w .part)) (w .servers); outs = outsDone p s a w; request = needsBy s a (w .part) })
-      (done p i s a (ranAt p i w))
+      (record { world = exchanged p (TurnOf i) (needsBy s a (w .part)) (acted i s a (afterRun p i w .part)) (w .servers); outs = outsDone p s a w; request = needsBy s a (w .part) })
+      (done p i s a (afterRun p i w))
   turn-act p i s w Idle = refl
   turn-act p i s w (Asks t l d) = refl
   turn-act p i s w (Says j t d) =
-      ap {B = Result S R} (λ b. record { world = does p i s (Says j t d) (ranAt p i w); outs = cond (not (eqb t s) && b) (out s t (Said j d) ∷ []) []; request = None })
+      ap {B = Result S R} (λ b. record { world = does p i s (Says j t d) (afterRun p i w); outs = cond (not (eqb t s) && b) (out s t (Said j d) ∷ []) []; request = None })
       (sym (isOf-change t i j (stepped (p .scripts)) (w .part .windows) (λ x. refl)))
   turn-act p i s w (Keeps d) = refl
   turn-act p i s w Looks = refl
@@ -46,21 +43,21 @@ module _ {S R : Type 0} where
       ap {B = Result S R} (λ n. opened (cond (ltb n mostWindows) (Some (record { site = t; from = None; token = w .part .tokens t; path = l; body = [] })) None)) (sym (change-length i (stepped (p .scripts)) (w .part .windows)))
     where
       opened : Option Request → Result S R
-      opened a = record { world = exchanged p (TurnOf i) a (ranAt p i w .part) (w .servers); outs = outsDone p s (Opens t l) w; request = a }
+      opened a = record { world = exchanged p (TurnOf i) a (afterRun p i w .part) (w .servers); outs = outsDone p s (Opens t l) w; request = a }
 
-  turn-is : (p : Sites S R) (i : ℕ) (x : Window S) (w : World S R) → turned p i (Some x) w ≡ done p i (x .site) (actOf (p .scripts) x) (ranAt p i w)
+  turn-is : (p : Sites S R) (i : ℕ) (x : Window S) (w : World S R) → turned p i (Some x) w ≡ done p i (x .site) (actOf (p .scripts) x) (afterRun p i w)
   turn-is p i x w = turn-act p i (x .site) w (actOf (p .scripts) x)
 
-  sited-ran : (p : Sites S R) (i : ℕ) (w : World S R) (x : Window S) → nth i (w .part .windows) ≡ Some x → Sited i (x .site) (ranAt p i w .part .windows)
+  sited-ran : (p : Sites S R) (i : ℕ) (w : World S R) (x : Window S) → nth i (w .part .windows) ≡ Some x → Sited i (x .site) (afterRun p i w .part .windows)
   sited-ran p i w x e = sited-this i (x .site) _ (stepped (p .scripts) x) (nth-change i (stepped (p .scripts)) (w .part .windows) x e) refl
 
 module _ {S R : Type 0} {h : Group} where
   -- a turn of a window of the group is for others what it lets out
   own-turn : (p : Sites S R) (i s : ℕ) (w : World S R) (x : Window S) → nth i (w .part .windows) ≡ Some x → x .site ≡ s → h (x .site) ≡ true →
-      SameResult h (turned p i (Some x) w) (done p i s (shown (letOut h (outsOf p (Some x) w))) (ranAt p i w))
+      SameResult h (turned p i (Some x) w) (done p i s (shown (letOut h (outsOf p (Some x) w))) (afterRun p i w))
   own-turn p i s w x e site m =
       let a : Act = actOf (p .scripts) x in
-      let u : World S R = ranAt p i w in
+      let u : World S R = afterRun p i w in
       let lets : visible h (u .part .windows) (x .site) a ≡ letOut h (outsOf p (Some x) w) =
       sym (ap (λ z. letOut h (z .outs)) (turn-is p i x w) ∙ own-lets h (u .part .windows) (x .site) m a (replyDone p (x .site) a u)) in
       subst (λ z. SameResult h (turned p i (Some x) w) (done p i z (shown (letOut h (outsOf p (Some x) w))) u)) site
@@ -71,7 +68,7 @@ module _ {S R : Type 0} {h : Group} where
     stepped-same : (x : Window S) → h (x .site) ≡ false → stepped (p .scripts) x ≡ stepped (q .scripts) x
     stepped-same x n = ap {B = Window S} (λ st. record { site = x .site; state = st; own = Silence; words = wordsLeft x }) (o .next (x .site) (x .state) (toldNow x) n)
 
-    ran-same : (i : ℕ) → Close h (ranAt p i w) (ranAt q i u)
+    ran-same : (i : ℕ) → Close h (afterRun p i w) (afterRun q i u)
     ran-same i =
         record { windows = same-change i (stepped (p .scripts)) (stepped (q .scripts)) (λ x y c b z. same-done (stepped (p .scripts)) (stepped (q .scripts)) (λ x′. refl) (λ x′. refl) x y (stepped-same x) z) (r .windows); tokens = r .tokens; kept = r .kept; servers = r .servers }
 
@@ -84,16 +81,16 @@ module _ {S R : Type 0} {h : Group} where
         let act : Act = shown (letOut h (outsOf p (Some x) w)) in
         result-trans (own-turn p i (x .site) w x at-f refl a)
         (result-trans (does-same o (ran-same i) i (x .site) act (sited-ran p i w x at-f) (λ n. absurd (true≢false (sym a ∙ n))))
-        (subst (λ z. SameResult h (done q i (x .site) (shown z) (ranAt q i u)) (turned q i (Some y) u)) (sym e)
+        (subst (λ z. SameResult h (done q i (x .site) (shown z) (afterRun q i u)) (turned q i (Some y) u)) (sym e)
         (result-sym (own-turn q i (x .site) u y at-g (sym b) (ap h (sym b) ∙ a)))))
     turned-same i f g at-f at-g (somebody {x} (one-other n)) e =
         let s : ℕ = x .site in
         let a : Act = actOf (p .scripts) x in
-        let to : turned q i (Some x) u ≡ done q i s a (ranAt q i u) = turn-is q i x u ∙ ap {B = Result S R} (λ z. done q i s z (ranAt q i u)) (sym (act-same x n)) in
-        let lets : letOut h (outsDone p s a (ranAt p i w)) ≡ letOut h (outsDone q s a (ranAt q i u)) =
+        let to : turned q i (Some x) u ≡ done q i s a (afterRun q i u) = turn-is q i x u ∙ ap {B = Result S R} (λ z. done q i s z (afterRun q i u)) (sym (act-same x n)) in
+        let lets : letOut h (outsDone p s a (afterRun p i w)) ≡ letOut h (outsDone q s a (afterRun q i u)) =
         ap (λ z. letOut h (z .outs)) (sym (turn-is p i x w)) ∙ e ∙ ap (λ z. letOut h (z .outs)) to in
         subst (λ z. SameResult h z (turned q i (Some x) u)) (sym (turn-is p i x w))
-        (subst (λ z. SameResult h (done p i s a (ranAt p i w)) z) (sym to)
+        (subst (λ z. SameResult h (done p i s a (afterRun p i w)) z) (sym to)
         (does-same o (ran-same i) i s a (sited-ran p i w x at-f) (λ m. lets)))
 
     pub event-same : (e : Event) → letOut h (outs p e w) ≡ letOut h (outs q e u) → SameResult h (resultOf p e w) (resultOf q e u)

@@ -93,6 +93,7 @@ abbrev pub toldOf : Bool → ℕ → Reply → Told
 toldOf seen t Unreadable = Barred t
 toldOf seen t (Readable c d k lets) = cond seen (Answer t c d) (Barred t)
 
+-- What a page of site s is told of site t's reply.
 abbrev pub answered : ℕ → ℕ → Reply → Told
 answered s t r = toldOf (maySee s t r) t r
 
@@ -140,6 +141,7 @@ module _ {S : Type 0} where
   abbrev pub fresh : Scripts S → ℕ → Bytes → Reply → Window S
   fresh c t h r = record { site = t; state = c .begin t (pageIn r); own = Begun h; words = [] }
 
+  -- The part with these windows.
   abbrev pub with-windows : List (Window S) → Part S → Part S
   with-windows xs b = record { windows = xs; tokens = b .tokens; kept = b .kept }
 

@@ -29,6 +29,7 @@ c = 2
 abbrev pub one : ℕ → Bytes
 one n = n ∷ []
 
+-- The path of the first page.
 abbrev pub home : Bytes
 home = 47 ∷ []
 
@@ -46,6 +47,7 @@ sitesOf acts answer =
       serve = λ q x. record { reply = answer q; state = suc x };
     }
 
+-- A window of site s that has had no turn.
 abbrev pub windowOf : ℕ → Window ℕ
 windowOf s = record { site = s; state = 0; own = Silence; words = [] }
 
@@ -72,6 +74,7 @@ pages xs ys s = cond (eqb s a) xs (cond (eqb s b) ys [])
 abbrev pub answers : (ℕ → Bool) → Request → Reply
 answers lets q = Readable 200 (one 42) (Some (one 21)) lets
 
+-- No other site.
 abbrev pub nobody : ℕ → Bool
 nobody s = false
 
@@ -83,6 +86,7 @@ greets q = byToken (q .token)
     byToken None = Readable 403 [] None nobody
     byToken (Some k) = Readable 200 (one 42) None nobody
 
+-- An answer that can't be read.
 abbrev pub garbled : Request → Reply
 garbled q = Unreadable
 
@@ -108,20 +112,25 @@ pub record Row : Type 0 where
   pub turns : List ℕ
   pub facts : List Fact
 
+-- What a window is told next.
 abbrev pub toldTo : Option (Window ℕ) → Told
 toldTo None = Silence
 toldTo (Some x) = toldNow x
 
+-- The words that wait for it.
 abbrev pub wordsOf : Option (Window ℕ) → List Word
 wordsOf None = []
 wordsOf (Some x) = x .words
 
+-- The world after the turns of a row, with these acts and this guest.
 abbrev pub ends : Row → (ℕ → List Act) → Option Bytes → World ℕ ℕ
 ends r acts guest = after (sitesOf acts (r .answer)) (length (r .turns)) (world (r .more) guest (r .turns)) .world
 
+-- The world after the turns of a row.
 abbrev pub end : Row → World ℕ ℕ
 end r = ends r (r .acts) (r .guest)
 
+-- A fact of a row holds.
 abbrev pub Holds : Row → Fact → Type 0
 Holds r (told i t) = toldTo (nth i (end r .part .windows)) ≡ t
 Holds r (waiting i ms) = wordsOf (nth i (end r .part .windows)) ≡ ms
@@ -134,6 +143,7 @@ Holds r (requests qs) = trace (step (sitesOf (r .acts) (r .answer))) (requestNow
 Holds r nothing = end r ≡ ends r (pages [] []) (r .guest)
 Holds r (same-with k i) = toldTo (nth i (end r .part .windows)) ≡ toldTo (nth i (ends r (r .acts) k .part .windows))
 
+-- The word n of site s.
 abbrev pub word : ℕ → ℕ → Word
 word s n = record { from = s; what = one n }
 
@@ -141,6 +151,7 @@ word s n = record { from = s; what = one n }
 abbrev pub case : List Act → List Act → (Request → Reply) → List ℕ → List Fact → Row
 case xs ys f is fs = record { acts = pages xs ys; answer = f; more = 0; guest = Some (one 20); turns = is; facts = fs }
 
+-- The rows.
 abbrev pub cases : List Row
 cases =
     -- A. A page of a asks a's server: it is told the answer, and nothing is let out.
@@ -198,21 +209,26 @@ cases =
 abbrev pub TableHolds : Type 0
 TableHolds = Every (λ r. Every (Holds r) (r .facts)) cases
 
--- CASE G AS AN INSTANCE OF THE PROMISE: two browsers whose guests differ at b, by b's server itself: it greets a guest in one and doesn't know him in the other, and bars everybody else in both. In three rounds of all windows, in which a's page asks it, b lets nothing out in either, and everything of all others is the same.
+-- b's server knows the guest.
 abbrev pub knows : Request → Reply
 knows q = Readable 200 (one 42) (Some (one 21)) nobody
 
+-- It does not know the guest.
 abbrev pub refuses : Request → Reply
 refuses q = Readable 403 [] None nobody
 
+-- b's server answers so, and the others as before.
 abbrev pub at-b : (Request → Reply) → Request → Reply
 at-b f q = cond (eqb (q .site) b) (f q) (answers nobody q)
 
+-- Both windows wait, and three rounds are to be had.
 abbrev pub evening : Run ℕ ℕ
 evening = record { world = world 0 None [] .world; agenda = record { opens = []; round = []; lines = Rounds 3 ∷ [] } }
 
+-- a's page asks b twice and looks; b's page keeps something and looks.
 abbrev pub asker : ℕ → List Act
 asker = pages (Asks b home (one 3) ∷ Asks b home (one 4) ∷ Looks ∷ []) (Keeps (one 9) ∷ Looks ∷ [])
 
+-- CASE G AS AN INSTANCE OF THE PROMISE: two browsers whose guests differ at b, by b's server itself, which bars everybody else in both. In three rounds of all windows, in which a's page asks it, b lets nothing out in either, and everything of all others is the same.
 abbrev pub GuestUnseen : Type 0
 GuestUnseen = Others (only b) (sitesOf asker (at-b knows)) (sitesOf asker (at-b refuses)) × SameForOthers (only b) (sitesOf asker (at-b knows)) (sitesOf asker (at-b refuses)) evening evening 6

@@ -1,9 +1,9 @@
 -- What else is promised: what is let out, and nothing more is; what each event does to each site and to each window; what holds at every moment.
 use mathlib.Core.Path.{_≡_}
 use mathlib.Core.Bool.{Bool, true, false, cond, _&&_, _||_}
-use mathlib.Core.List.{List, [], _∷_, _++_}
+use mathlib.Core.List.{List, [], _∷_, _++_, map}
 use mathlib.Core.Logic.{_⊎_}
-use Prim.Native.Nat.{ℕ, _<_, _≤_}
+use Prim.Native.Nat.{ℕ, suc, _<_, _≤_}
 use lib.Dec.{eqb, ltb}
 use lib.ListN.{length}
 use Rattle.std.specs.declared.option.Option.{Option}
@@ -11,7 +11,7 @@ use Rattle.std.specs.declared.option.Option.the-variants.{Some, None}
 use Rattle.pages.specs.Sites.{Bytes, Act, Idle, Asks, Says, Keeps, Looks, Opens, Told, Silence, Begun, Answer, Barred, Heard, Kept, Request, Reply, Unreadable, Readable, Served, Sites}
 use Rattle.pages.specs.Browser.{Word, Window, Part, World, mostWords, at, nth, change, toldNow, wordsLeft, isSilence, actOf, stepped, owns, hears, answered, tokenAfter, pageIn, needs, happens, Event, Opening, TurnOf}
 use Rattle.pages.specs.Outs.{What, Asked, Said, Opened, Let, Out, out, isOf, outs, keepOnly}
-use Rattle.pages.specs.Runs.{Run, Open, Settings, trace, step, after, begin, eventNow, requestNow}
+use Rattle.pages.specs.Runs.{Run, Open, Settings, Line, Rounds, Due, countFrom, lineDue, dueNow, trace, step, after, begin, eventNow, requestNow}
 use Rattle.pages.specs.Views.{View, viewOf, Effect, Serves, Hears, Begins, takesAll, effects, effectsNow, concat}
 
 -- All of a list have it.
@@ -41,6 +41,7 @@ toldByOut t (Said j d) = Barred t
 toldByOut t (Opened h) = Barred t
 toldByOut t (Let c b) = Answer t c b
 
+-- The same by the list of what the asked site let out.
 abbrev pub toldBy : ℕ → List Out → Told
 toldBy t [] = Barred t
 toldBy t (o ∷ os) = toldByOut t (o .what)
@@ -66,9 +67,11 @@ module _ {S R : Type 0} where
   becomes p w i s Looks j y = cond (eqb j i) (owns (Kept (w .part .kept s)) y) y
   becomes p w i s (Opens t h) j y = y
 
+  -- The servers' states after a request.
   abbrev pub serversAfter : Sites S R → Request → World S R → ℕ → R
   serversAfter p a w = at (a .site) (p .serve a (w .servers (a .site)) .state) (w .servers)
 
+  -- The tokens after a request.
   abbrev pub tokensAfter : Sites S R → Request → World S R → ℕ → Option Bytes
   tokensAfter p a w = at (a .site) (tokenAfter (p .serve a (w .servers (a .site)) .reply) (w .part .tokens (a .site))) (w .part .tokens)
 
@@ -85,6 +88,7 @@ abbrev pub accepts : {S : Type 0} → ℕ → Option (Window S) → Bool
 accepts t None = false
 accepts t (Some y) = eqb (y .site) t && ltb (length (y .words)) mostWords
 
+-- The word that an act of a window of site s puts before window j, which is the one given.
 abbrev pub deliveredBy : {S : Type 0} → ℕ → ℕ → Act → Option (Window S) → List Word
 deliveredBy j s Idle f = []
 deliveredBy j s (Asks t h d) f = []
@@ -94,10 +98,12 @@ deliveredBy j s Looks f = []
 deliveredBy j s (Opens t h) f = []
 
 module _ {S R : Type 0} where
+  -- The word that a turn of window i puts before window j.
   abbrev pub deliveredOf : Sites S R → ℕ → ℕ → Option (Window S) → World S R → List Word
   deliveredOf p j i None w = []
   deliveredOf p j i (Some x) w = deliveredBy j (x .site) (actOf (p .scripts) x) (nth j (running p i w))
 
+  -- The word that an event puts before window j, if there is one.
   abbrev pub deliveredOn : Sites S R → ℕ → World S R → Option Event → List Word
   deliveredOn p j w None = []
   deliveredOn p j w (Some (Opening t h)) = []
@@ -107,6 +113,7 @@ module _ {S R : Type 0} where
   abbrev pub deliveredNow : Sites S R → ℕ → Run S R → List Word
   deliveredNow p j x = deliveredOn p j (x .world) (eventNow x)
 
+-- What an act keeps.
 abbrev pub keptAct : Act → Option Bytes
 keptAct Idle = None
 keptAct (Asks t h d) = None
@@ -116,10 +123,12 @@ keptAct Looks = None
 keptAct (Opens t h) = None
 
 module _ {S R : Type 0} where
+  -- What a window of site v keeps in its turn.
   abbrev pub keptOf : Sites S R → ℕ → Option (Window S) → Option Bytes
   keptOf p v None = None
   keptOf p v (Some x) = cond (eqb (x .site) v) (keptAct (actOf (p .scripts) x)) None
 
+  -- What an event has a window of site v keep.
   abbrev pub keptOn : Sites S R → ℕ → World S R → Option Event → Option Bytes
   keptOn p v w None = None
   keptOn p v w (Some (Opening t h)) = None
@@ -135,109 +144,121 @@ latest [] x = x
 latest (None ∷ os) x = latest os x
 latest (Some y ∷ os) x = latest os y
 
+-- A request, if there is one, is to a site with a number below n.
 abbrev pub NamedRequest : ℕ → Option Request → Type 0
 NamedRequest n None = Unit {0}
 NamedRequest n (Some a) = a .site < n
 
-module _ (S R : Type 0) where
-  -- WHAT IS LET OUT is only this, and at a missing window's turn and at an opening by the settings nothing is.
-  abbrev pub LetOutOnly : Type 0
-  LetOutOnly = (p : Sites S R) (w : World S R) (i : ℕ) (x : Window S) → nth i (w .part .windows) ≡ Some x → Every (MayLetOut p w x) (outs p (TurnOf i) w)
+-- WHAT IS LET OUT in a turn of a window is only what may be.
+abbrev pub LetOutOnly : Type 0 → Type 0 → Type 0
+LetOutOnly S R = (p : Sites S R) (w : World S R) (i : ℕ) (x : Window S) → nth i (w .part .windows) ≡ Some x → Every (MayLetOut p w x) (outs p (TurnOf i) w)
 
-  abbrev pub ElseNothing : Type 0
-  ElseNothing = (p : Sites S R) (w : World S R) → ((i : ℕ) → nth i (w .part .windows) ≡ None → (outs p (TurnOf i) w ≡ []) × (happens p (TurnOf i) w ≡ w)) × ((t : ℕ) (h : Bytes) → outs p (Opening t h) w ≡ [])
+-- At a missing window's turn nothing is let out and nothing happens; at an opening by the settings nothing is let out.
+abbrev pub ElseNothing : Type 0 → Type 0 → Type 0
+ElseNothing S R = (p : Sites S R) (w : World S R) → ((i : ℕ) → nth i (w .part .windows) ≡ None → (outs p (TurnOf i) w ≡ []) × (happens p (TurnOf i) w ≡ w)) × ((t : ℕ) (h : Bytes) → outs p (Opening t h) w ≡ [])
 
-  -- LET OUT AND TOLD ARE ONE. A page that asks another site's server is told what that site let out in this turn; if it let out nothing, that there was an answer that it may not see.
-  abbrev pub ToldIsLetOut : Type 0
-  ToldIsLetOut =
-      (p : Sites S R) (w : World S R) (i : ℕ) (x : Window S) (t : ℕ) (h d : Bytes) → nth i (w .part .windows) ≡ Some x → actOf (p .scripts) x ≡ Asks t h d → (t ≡ x .site → ⊥) →
-      nth i (happens p (TurnOf i) w .part .windows) ≡ Some (owns (toldBy t (keepOnly (λ o. eqb (o .from) t) (outs p (TurnOf i) w))) (stepped (p .scripts) x))
+-- LET OUT AND TOLD ARE ONE. A page that asks another site's server is told what that site let out in this turn; if it let out nothing, that there was an answer that it may not see.
+abbrev pub ToldIsLetOut : Type 0 → Type 0 → Type 0
+ToldIsLetOut S R =
+    (p : Sites S R) (w : World S R) (i : ℕ) (x : Window S) (t : ℕ) (h d : Bytes) → nth i (w .part .windows) ≡ Some x → actOf (p .scripts) x ≡ Asks t h d → (t ≡ x .site → ⊥) →
+    nth i (happens p (TurnOf i) w .part .windows) ≡ Some (owns (toldBy t (keepOnly (λ (o : Out). eqb (o .from) t) (outs p (TurnOf i) w))) (stepped (p .scripts) x))
 
-  -- THE VIEW LAW. What is of a site after an event is a function of what was of it before and of what the event did to it; and so after any number of events.
-  abbrev pub ViewLaw : Type 0
-  ViewLaw = (p : Sites S R) (v : ℕ) (e : Event) (w : World S R) → viewOf v (happens p e w) ≡ takesAll p v (effects p v e w) (viewOf v w)
+-- THE VIEW LAW. What is of a site after an event is a function of what was of it before and of what the event did to it.
+abbrev pub ViewLaw : Type 0 → Type 0 → Type 0
+ViewLaw S R = (p : Sites S R) (v : ℕ) (e : Event) (w : World S R) → viewOf v (happens p e w) ≡ takesAll p v (effects p v e w) (viewOf v w)
 
-  abbrev pub HistoryLaw : Type 0
-  HistoryLaw = (p : Sites S R) (v n : ℕ) (x : Run S R) → viewOf v (after p n x .world) ≡ takesAll p v (concat (trace (step p) (effectsNow p v) n x)) (viewOf v (x .world))
+-- So it is after any number of events.
+abbrev pub HistoryLaw : Type 0 → Type 0 → Type 0
+HistoryLaw S R = (p : Sites S R) (v n : ℕ) (x : Run S R) → viewOf v (after p n x .world) ≡ takesAll p v (concat (trace (step p) (effectsNow p v) n x)) (viewOf v (x .world))
 
-  -- NOT TOUCHED BUT BY THE THREE OPEN WAYS, and told truly who asked or spoke.
-  abbrev pub TouchedOnly : Type 0
-  TouchedOnly = (p : Sites S R) (v : ℕ) (w : World S R) (i : ℕ) (x : Window S) → nth i (w .part .windows) ≡ Some x → (x .site ≡ v → ⊥) → Foreign p v w x (effects p v (TurnOf i) w)
+-- NOT TOUCHED BUT BY THE THREE OPEN WAYS, and told truly who asked or spoke.
+abbrev pub TouchedOnly : Type 0 → Type 0 → Type 0
+TouchedOnly S R = (p : Sites S R) (v : ℕ) (w : World S R) (i : ℕ) (x : Window S) → nth i (w .part .windows) ≡ Some x → (x .site ≡ v → ⊥) → Foreign p v w x (effects p v (TurnOf i) w)
 
-  -- EACH WINDOW. What a turn of window x, with number i, makes of the window with number j: itself, where j is i, or another.
-  abbrev pub EachWindow : Type 0
-  EachWindow =
-      (p : Sites S R) (w : World S R) (i j : ℕ) (x y : Window S) → nth i (w .part .windows) ≡ Some x → nth j (w .part .windows) ≡ Some y →
-      nth j (happens p (TurnOf i) w .part .windows) ≡ Some (becomes p w i (x .site) (actOf (p .scripts) x) j (ran p i j y))
+-- EACH WINDOW. What a turn of window x, with number i, makes of the window with number j: itself, where j is i, or another.
+abbrev pub EachWindow : Type 0 → Type 0 → Type 0
+EachWindow S R =
+    (p : Sites S R) (w : World S R) (i j : ℕ) (x y : Window S) → nth i (w .part .windows) ≡ Some x → nth j (w .part .windows) ≡ Some y →
+    nth j (happens p (TurnOf i) w .part .windows) ≡ Some (becomes p w i (x .site) (actOf (p .scripts) x) j (ran p i j y))
 
-  -- TOLD NEXT, AND BEFORE WORDS. What comes of a window's own doing is told before all words, which wait on; else the oldest word is told and is taken away.
-  abbrev pub ToldNext : Type 0
-  ToldNext =
-      (x : Window S) →
-      (isSilence (x .own) ≡ false → (toldNow x ≡ x .own) × (wordsLeft x ≡ x .words)) ×
-      ((m : Word) (ms : List Word) → x .own ≡ Silence → x .words ≡ m ∷ ms → (toldNow x ≡ Heard (m .from) (m .what)) × (wordsLeft x ≡ ms))
+-- TOLD NEXT, AND BEFORE WORDS. What comes of a window's own doing is told before all words, which wait on; else the oldest word is told and is taken away.
+abbrev pub ToldNext : Type 0 → Type 0 → Type 0
+ToldNext S R =
+    (x : Window S) →
+    (isSilence (x .own) ≡ false → (toldNow x ≡ x .own) × (wordsLeft x ≡ x .words)) ×
+    ((m : Word) (ms : List Word) → x .own ≡ Silence → x .words ≡ m ∷ ms → (toldNow x ≡ Heard (m .from) (m .what)) × (wordsLeft x ≡ ms))
 
-  -- SEES ITS OWN. A page that asks is told code and body of a reply that can be read, if it is of its own site's server or lets its site see it.
-  abbrev pub SeesOwn : Type 0
-  SeesOwn =
-      (p : Sites S R) (w : World S R) (i : ℕ) (x : Window S) (t : ℕ) (h d : Bytes) (c : ℕ) (b : Bytes) (k : Option Bytes) (lets : ℕ → Bool) →
-      nth i (w .part .windows) ≡ Some x → actOf (p .scripts) x ≡ Asks t h d → p .serve (asking w (x .site) t h d) (w .servers t) .reply ≡ Readable c b k lets → (x .site ≡ t) ⊎ (lets (x .site) ≡ true) →
-      nth i (happens p (TurnOf i) w .part .windows) ≡ Some (afterTurn p x (Answer t c b) (wordsLeft x))
+-- SEES ITS OWN. A page that asks is told code and body of a reply that can be read, if it is of its own site's server or lets its site see it.
+abbrev pub SeesOwn : Type 0 → Type 0 → Type 0
+SeesOwn S R =
+    (p : Sites S R) (w : World S R) (i : ℕ) (x : Window S) (t : ℕ) (h d : Bytes) (c : ℕ) (b : Bytes) (k : Option Bytes) (lets : ℕ → Bool) →
+    nth i (w .part .windows) ≡ Some x → actOf (p .scripts) x ≡ Asks t h d → p .serve (asking w (x .site) t h d) (w .servers t) .reply ≡ Readable c b k lets → (x .site ≡ t) ⊎ (lets (x .site) ≡ true) →
+    nth i (happens p (TurnOf i) w .part .windows) ≡ Some (afterTurn p x (Answer t c b) (wordsLeft x))
 
-  -- A WORD TO ONESELF waits behind those that wait already, once the oldest is taken.
-  abbrev pub WordToOneself : Type 0
-  WordToOneself =
-      (p : Sites S R) (w : World S R) (i : ℕ) (x : Window S) (d : Bytes) → nth i (w .part .windows) ≡ Some x → actOf (p .scripts) x ≡ Says i (x .site) d → length (wordsLeft x) < 8 →
-      nth i (happens p (TurnOf i) w .part .windows) ≡ Some (afterTurn p x Silence (wordsLeft x ++ (record { from = x .site; what = d } ∷ [])))
+-- A WORD TO ONESELF waits behind those that wait already, once the oldest is taken.
+abbrev pub WordToOneself : Type 0 → Type 0 → Type 0
+WordToOneself S R =
+    (p : Sites S R) (w : World S R) (i : ℕ) (x : Window S) (d : Bytes) → nth i (w .part .windows) ≡ Some x → actOf (p .scripts) x ≡ Says i (x .site) d → length (wordsLeft x) < 8 →
+    nth i (happens p (TurnOf i) w .part .windows) ≡ Some (afterTurn p x Silence (wordsLeft x ++ (record { from = x .site; what = d } ∷ [])))
 
-  -- A NINTH WORD changes nothing of the window that it was for.
-  abbrev pub NinthWord : Type 0
-  NinthWord =
-      (p : Sites S R) (w : World S R) (i j : ℕ) (x y : Window S) (t : ℕ) (d : Bytes) → nth i (w .part .windows) ≡ Some x → nth j (w .part .windows) ≡ Some y → (j ≡ i → ⊥) → actOf (p .scripts) x ≡ Says j t d → 8 ≤ length (y .words) →
-      nth j (happens p (TurnOf i) w .part .windows) ≡ Some y
+-- A NINTH WORD changes nothing of the window that it was for.
+abbrev pub NinthWord : Type 0 → Type 0 → Type 0
+NinthWord S R =
+    (p : Sites S R) (w : World S R) (i j : ℕ) (x y : Window S) (t : ℕ) (d : Bytes) → nth i (w .part .windows) ≡ Some x → nth j (w .part .windows) ≡ Some y → (j ≡ i → ⊥) → actOf (p .scripts) x ≡ Says j t d → 8 ≤ length (y .words) →
+    nth j (happens p (TurnOf i) w .part .windows) ≡ Some y
 
-  -- OPENING. With fewer than 16 windows a window more is there, the last, of the named site, told that it has begun, with the page and the token that the server gave; with 16 the script runs and nothing else is done, and no server is asked.
-  abbrev pub OpensWindow : Type 0
-  OpensWindow =
-      (p : Sites S R) (w : World S R) (i : ℕ) (x : Window S) (t : ℕ) (h : Bytes) → nth i (w .part .windows) ≡ Some x → actOf (p .scripts) x ≡ Opens t h →
-      (length (w .part .windows) < 16 →
-      happens p (TurnOf i) w ≡
-      record {
-        part = record {
-          windows = running p i w ++ (record { site = t; state = p .scripts .begin t (pageIn (p .serve (fetching w t h) (w .servers t) .reply)); own = Begun h; words = [] } ∷ []);
-          tokens = tokensAfter p (fetching w t h) w;
-          kept = w .part .kept;
-        };
-        servers = serversAfter p (fetching w t h) w;
-      }) ×
-      (16 ≤ length (w .part .windows) →
-      (needs (p .scripts) (TurnOf i) (w .part) ≡ None) ×
-      (happens p (TurnOf i) w ≡ record { part = record { windows = running p i w; tokens = w .part .tokens; kept = w .part .kept }; servers = w .servers }))
+-- OPENING. With fewer than 16 windows a window more is there, the last, of the named site, told that it has begun, with the page and the token that the server gave; with 16 the script runs and nothing else is done, and no server is asked.
+abbrev pub OpensWindow : Type 0 → Type 0 → Type 0
+OpensWindow S R =
+    (p : Sites S R) (w : World S R) (i : ℕ) (x : Window S) (t : ℕ) (h : Bytes) → nth i (w .part .windows) ≡ Some x → actOf (p .scripts) x ≡ Opens t h →
+    (length (w .part .windows) < 16 →
+    happens p (TurnOf i) w ≡
+    record {
+      part = record {
+        windows = running p i w ++ (record { site = t; state = p .scripts .begin t (pageIn (p .serve (fetching w t h) (w .servers t) .reply)); own = Begun h; words = [] } ∷ []);
+        tokens = tokensAfter p (fetching w t h) w;
+        kept = w .part .kept;
+      };
+      servers = serversAfter p (fetching w t h) w;
+    }) ×
+    (16 ≤ length (w .part .windows) →
+    (needs (p .scripts) (TurnOf i) (w .part) ≡ None) ×
+    (happens p (TurnOf i) w ≡ record { part = record { windows = running p i w; tokens = w .part .tokens; kept = w .part .kept }; servers = w .servers }))
 
-  -- FINDS THE LAST KEPT. What a site keeps is what its windows kept last, over whole runs; and one that looks is told it.
-  abbrev pub KeptLast : Type 0
-  KeptLast = (p : Sites S R) (v n : ℕ) (x : Run S R) → after p n x .world .part .kept v ≡ latest (trace (step p) (keptNow p v) n x) (x .world .part .kept v)
+-- FINDS THE LAST KEPT. What a site keeps is what its windows kept last, over whole runs.
+abbrev pub KeptLast : Type 0 → Type 0 → Type 0
+KeptLast S R = (p : Sites S R) (v n : ℕ) (x : Run S R) → after p n x .world .part .kept v ≡ latest (trace (step p) (keptNow p v) n x) (x .world .part .kept v)
 
-  abbrev pub LooksFinds : Type 0
-  LooksFinds =
-      (p : Sites S R) (w : World S R) (i : ℕ) (x : Window S) → nth i (w .part .windows) ≡ Some x → actOf (p .scripts) x ≡ Looks →
-      nth i (happens p (TurnOf i) w .part .windows) ≡ Some (afterTurn p x (Kept (w .part .kept (x .site))) (wordsLeft x))
+-- A window that looks is told what its site keeps.
+abbrev pub LooksFinds : Type 0 → Type 0 → Type 0
+LooksFinds S R =
+    (p : Sites S R) (w : World S R) (i : ℕ) (x : Window S) → nth i (w .part .windows) ≡ Some x → actOf (p .scripts) x ≡ Looks →
+    nth i (happens p (TurnOf i) w .part .windows) ≡ Some (afterTurn p x (Kept (w .part .kept (x .site))) (wordsLeft x))
 
-  -- EVERY WORD IS TRUE. From the settings on, the words that wait for a window are the last of those that were said to it, in order, each once, and each under the site of the window that said it.
-  abbrev pub WordsTruly : Type 0
-  WordsTruly =
-      (p : Sites S R) (g : Settings) (r : ℕ → R) (n j : ℕ) (y : Window S) → nth j (after p n (begin g r) .world .part .windows) ≡ Some y →
-      (gone : List Word) × (gone ++ y .words ≡ concat (trace (step p) (deliveredNow p j) n (begin g r)))
+-- EVERY WORD IS TRUE. From the settings on, the words that wait for a window are the last of those that were said to it, in order, each once, and each under the site of the window that said it.
+abbrev pub WordsTruly : Type 0 → Type 0 → Type 0
+WordsTruly S R =
+    (p : Sites S R) (g : Settings) (r : ℕ → R) (n j : ℕ) (y : Window S) → nth j (after p n (begin g r) .world .part .windows) ≡ Some y →
+    (gone : List Word) × (gone ++ y .words ≡ concat (trace (step p) (deliveredNow p j) n (begin g r)))
 
-  -- LIMITS. From the settings on there are at most 16 windows, and at most 8 words wait for each.
-  abbrev pub Limits : Type 0
-  Limits = (p : Sites S R) (g : Settings) (r : ℕ → R) (n : ℕ) → (length (after p n (begin g r) .world .part .windows) ≤ 16) × Every (λ x. length (x .words) ≤ 8) (after p n (begin g r) .world .part .windows)
+-- LIMITS. From the settings on there are at most 16 windows, and at most 8 words wait for each.
+abbrev pub Limits : Type 0 → Type 0 → Type 0
+Limits S R = (p : Sites S R) (g : Settings) (r : ℕ → R) (n : ℕ) → (length (after p n (begin g r) .world .part .windows) ≤ 16) × Every (λ x. length (x .words) ≤ 8) (after p n (begin g r) .world .part .windows)
 
-  -- ONLY NAMED SITES. If the settings open windows of numbered sites only, every window is of a numbered site, and no other server is ever asked.
-  abbrev pub OnlyNamed : Type 0
-  OnlyNamed =
-      (p : Sites S R) (g : Settings) (r : ℕ → R) (n : ℕ) → Every (λ o. o .site < p .scripts .sites) (g .opens) →
-      Every (λ x. x .site < p .scripts .sites) (after p n (begin g r) .world .part .windows) × NamedRequest (p .scripts .sites) (requestNow p (after p n (begin g r)))
+-- ONLY NAMED SITES. If the settings open windows of numbered sites only, every window is of a numbered site, and no other server is ever asked.
+abbrev pub OnlyNamed : Type 0 → Type 0 → Type 0
+OnlyNamed S R =
+    (p : Sites S R) (g : Settings) (r : ℕ → R) (n : ℕ) → Every (λ o. o .site < p .scripts .sites) (g .opens) →
+    Every (λ x. x .site < p .scripts .sites) (after p n (begin g r) .world .part .windows) × NamedRequest (p .scripts .sites) (requestNow p (after p n (begin g r)))
+
+-- A ROUND of `n times all` gives a turn to each window that is there when it begins, by number, and to no other; one of no windows is over at once.
+abbrev pub RoundLaw : Type 0 → Type 0 → Type 0
+RoundLaw S R =
+    (p : Sites S R) (w : World S R) (n : ℕ) (ls : List Line) →
+    let x : Run S R = record { world = w; agenda = record { opens = []; round = []; lines = Rounds (suc n) ∷ ls } } in
+    let m : ℕ = length (w .part .windows) in
+    (0 < m → (trace (step p) eventNow m x ≡ map (λ i. Some (TurnOf i)) (countFrom 0 m)) × (after p m x .agenda ≡ record { opens = []; round = []; lines = Rounds n ∷ ls })) ×
+    (m ≡ 0 → _≡_ {A = Option Due} (dueNow x) (lineDue 0 ls))
 
 -- What a window may count on: what it is told next; what it sees of a reply; words to itself and ninth words; openings; what it finds.
 pub record Readings (S R : Type 0) : Type 0 where

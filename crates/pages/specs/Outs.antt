@@ -21,6 +21,7 @@ pub record Out : Type 0 where
   pub to : ℕ
   pub what : What
 
+-- Site s lets this out to site t.
 abbrev pub out : ℕ → ℕ → What → Out
 out s t x = record { from = s; to = t; what = x }
 
@@ -49,6 +50,7 @@ module _ {S R : Type 0} where
   replyTo p None r = Unreadable
   replyTo p (Some q) r = served p q r .reply
 
+  -- What is let out in the turn of the window that is there, if one is.
   abbrev pub outsOf : Sites S R → Option (Window S) → World S R → List Out
   outsOf p None w = []
   outsOf p (Some x) w = outsBy (w .part .windows) (x .site) (actOf (p .scripts) x) (replyTo p (needsOf (p .scripts) (Some x) (w .part)) (w .servers))
@@ -62,6 +64,7 @@ module _ {S R : Type 0} where
 abbrev pub Group : Type 0
 Group = ℕ → Bool
 
+-- Is it an opening?
 abbrev pub isOpened : What → Bool
 isOpened (Asked h d) = false
 isOpened (Said j d) = false

@@ -76,24 +76,23 @@ nothings (suc n) = [] ∷ nothings n
 abbrev pub only : ℕ → Group
 only v s = eqb s v
 
-module _ (S R : Type 0) where
-  -- NOTHING ELSE IS LEARNED. Two runs that are alike but for a group, over sites that are the same but for the group: as long as the group lets out the same in both, everything of all others is the same, whatever else the group is, has, knows and does.
-  abbrev pub NothingElse : Type 0
-  NothingElse = (h : Group) (p q : Sites S R) (x y : Run S R) → Others h p q → AlikeRuns h x y → (n : ℕ) → letOuts p h n x ≡ letOuts q h n y → SameForOthers h p q x y n
+-- NOTHING ELSE IS LEARNED. Two runs that are alike but for a group, over sites that are the same but for the group: as long as the group lets out the same in both, everything of all others is the same, whatever else the group is, has, knows and does.
+abbrev pub NothingElse : Type 0 → Type 0 → Type 0
+NothingElse S R = (h : Group) (p q : Sites S R) (x y : Run S R) → Others h p q → AlikeRuns h x y → (n : ℕ) → letOuts p h n x ≡ letOuts q h n y → SameForOthers h p q x y n
 
-  -- The same from the settings on: servers begin alike but for the group, and the browser has nothing yet.
-  abbrev pub FromSettings : Type 0
-  FromSettings =
-      (h : Group) (p q : Sites S R) (g : Settings) (r r′ : ℕ → R) → Others h p q → ((s : ℕ) → h s ≡ false → r s ≡ r′ s) →
-      (n : ℕ) → letOuts p h n (begin g r) ≡ letOuts q h n (begin g r′) → SameForOthers h p q (begin g r) (begin g r′) n
+-- The same from the settings on: servers begin alike but for the group, and the browser has nothing yet.
+abbrev pub FromSettings : Type 0 → Type 0 → Type 0
+FromSettings S R =
+    (h : Group) (p q : Sites S R) (g : Settings) (r r′ : ℕ → R) → Others h p q → ((s : ℕ) → h s ≡ false → r s ≡ r′ s) →
+    (n : ℕ) → letOuts p h n (begin g r) ≡ letOuts q h n (begin g r′) → SameForOthers h p q (begin g r) (begin g r′) n
 
-  -- AS IF IT WERE NOT. A group that lets nothing out might as well do nothing and answer nothing: all others are the same.
-  abbrev pub AsIfNot : Type 0
-  AsIfNot = (h : Group) (p : Sites S R) (g : Settings) (r : ℕ → R) (n : ℕ) → letOuts p h n (begin g r) ≡ nothings n → SameForOthers h p (silenced h p) (begin g r) (begin g r) n
+-- AS IF IT WERE NOT. A group that lets nothing out might as well do nothing and answer nothing: all others are the same.
+abbrev pub AsIfNot : Type 0 → Type 0 → Type 0
+AsIfNot S R = (h : Group) (p : Sites S R) (g : Settings) (r : ℕ → R) (n : ℕ) → letOuts p h n (begin g r) ≡ nothings n → SameForOthers h p (silenced h p) (begin g r) (begin g r) n
 
-  -- ONE SITE, in words of its own: if site v lets out the same in both runs, the view of every other site is the same at every moment.
-  abbrev pub OneSite : Type 0
-  OneSite =
-      (v : ℕ) (p q : Sites S R) (g : Settings) (r r′ : ℕ → R) → Others (only v) p q → ((s : ℕ) → (s ≡ v → ⊥) → r s ≡ r′ s) →
-      (n : ℕ) → letOuts p (only v) n (begin g r) ≡ letOuts q (only v) n (begin g r′) →
-      (s : ℕ) → (s ≡ v → ⊥) → viewOf s (after p n (begin g r) .world) ≡ viewOf s (after q n (begin g r′) .world)
+-- ONE SITE, in words of its own: if site v lets out the same in both runs, the view of every other site is the same at every moment.
+abbrev pub OneSite : Type 0 → Type 0 → Type 0
+OneSite S R =
+    (v : ℕ) (p q : Sites S R) (g : Settings) (r r′ : ℕ → R) → Others (only v) p q → ((s : ℕ) → (s ≡ v → ⊥) → r s ≡ r′ s) →
+    (n : ℕ) → letOuts p (only v) n (begin g r) ≡ letOuts q (only v) n (begin g r′) →
+    (s : ℕ) → (s ≡ v → ⊥) → viewOf s (after p n (begin g r) .world) ≡ viewOf s (after q n (begin g r′) .world)

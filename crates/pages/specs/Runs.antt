@@ -44,6 +44,7 @@ pub record Due : Type 0 where
   pub event : Event
   pub rest : Agenda
 
+-- A turn of window i, and these are left.
 abbrev pub turnDue : ℕ → List ℕ → List Line → Option Due
 turnDue i is ls = Some (record { event = TurnOf i; rest = record { opens = []; round = is; lines = ls } })
 
@@ -55,10 +56,12 @@ lineDue m (Rounds zero ∷ ls) = lineDue m ls
 lineDue zero (Rounds (suc n) ∷ ls) = lineDue zero ls
 lineDue (suc m) (Rounds (suc n) ∷ ls) = turnDue 0 (countFrom 1 m) (Rounds n ∷ ls)
 
+-- The turns that are left in this round come before the lines.
 abbrev pub roundDue : ℕ → List ℕ → List Line → Option Due
 roundDue m [] ls = lineDue m ls
 roundDue m (i ∷ is) ls = turnDue i is ls
 
+-- The windows to be opened come first.
 abbrev pub dueBy : ℕ → List Open → List ℕ → List Line → Option Due
 dueBy m [] is ls = roundDue m is ls
 dueBy m (o ∷ os) is ls = Some (record { event = Opening (o .site) (o .path); rest = record { opens = os; round = is; lines = ls } })
@@ -67,6 +70,7 @@ dueBy m (o ∷ os) is ls = Some (record { event = Opening (o .site) (o .path); r
 abbrev pub due : ℕ → Agenda → Option Due
 due m g = dueBy m (g .opens) (g .round) (g .lines)
 
+-- The event alone.
 abbrev pub eventBy : Option Due → Option Event
 eventBy None = None
 eventBy (Some d) = Some (d .event)
@@ -86,6 +90,7 @@ module _ {S R : Type 0} where
   abbrev pub dueNow : Run S R → Option Due
   dueNow x = due (length (x .world .part .windows)) (x .agenda)
 
+  -- The run after what was due.
   abbrev pub stepBy : Sites S R → Run S R → Option Due → Run S R
   stepBy p x None = x
   stepBy p x (Some d) = record { world = happens p (d .event) (x .world); agenda = d .rest }
@@ -102,6 +107,7 @@ module _ {S R : Type 0} where
   abbrev pub eventNow : Run S R → Option Event
   eventNow x = eventBy (dueNow x)
 
+  -- What is let out in an event, if there is one.
   abbrev pub outsOn : Sites S R → World S R → Option Event → List Out
   outsOn p w None = []
   outsOn p w (Some e) = outs p e w
@@ -110,6 +116,7 @@ module _ {S R : Type 0} where
   abbrev pub outsNow : Sites S R → Run S R → List Out
   outsNow p x = outsOn p (x .world) (eventNow x)
 
+  -- What is asked of a server in an event, if there is one.
   abbrev pub requestOn : Sites S R → World S R → Option Event → Option Request
   requestOn p w None = None
   requestOn p w (Some e) = needs (p .scripts) e (w .part)

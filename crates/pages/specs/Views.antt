@@ -29,6 +29,7 @@ pub record View (S R : Type 0) : Type 0 where
   pub kept : Bytes
   pub server : R
 
+-- The view of site v.
 abbrev pub viewOf : {S R : Type 0} → ℕ → World S R → View S R
 viewOf v w = record { windows = ofSite v 0 (w .part .windows); token = w .part .tokens v; kept = w .part .kept v; server = w .servers v }
 
@@ -65,12 +66,15 @@ module _ {S R : Type 0} where
   abbrev pub requestTo : ℕ → Option ℕ → Bytes → Bytes → View S R → Request
   requestTo v from h d x = record { site = v; from = from; token = x .token; path = h; body = d }
 
+  -- What comes of such a request.
   abbrev pub servedTo : Sites S R → ℕ → Option ℕ → Bytes → Bytes → View S R → Served R
   servedTo p v from h d x = p .serve (requestTo v from h d x) (x .server)
 
+  -- The view with these windows.
   abbrev pub with-own : List (ℕ × Window S) → View S R → View S R
   with-own xs x = record { windows = xs; token = x .token; kept = x .kept; server = x .server }
 
+  -- The view with these windows, once its server has served a request.
   abbrev pub with-served : List (ℕ × Window S) → Served R → View S R → View S R
   with-served xs v x = record { windows = xs; token = tokenAfter (v .reply) (x .token); kept = x .kept; server = v .state }
 
@@ -98,6 +102,7 @@ module _ {S R : Type 0} where
   effectsBy p v i s Looks w = onlyFor v s (Finds i ∷ [])
   effectsBy p v i s (Opens t h) w = opening v t h (w .part)
 
+  -- What a turn of the window that is there, if one is, does to site v.
   abbrev pub effectsOf : Sites S R → ℕ → ℕ → Option (Window S) → World S R → List Effect
   effectsOf p v i None w = []
   effectsOf p v i (Some x) w = onlyFor v (x .site) (Runs i ∷ []) ++ effectsBy p v i (x .site) (actOf (p .scripts) x) w
@@ -107,6 +112,7 @@ module _ {S R : Type 0} where
   effects p v (Opening t h) w = opening v t h (w .part)
   effects p v (TurnOf i) w = effectsOf p v i (nth i (w .part .windows)) w
 
+  -- What an event does to it, if there is one.
   abbrev pub effectsOn : Sites S R → ℕ → World S R → Option Event → List Effect
   effectsOn p v w None = []
   effectsOn p v w (Some e) = effects p v e w

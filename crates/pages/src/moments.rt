@@ -1,5 +1,5 @@
 // What is let out in a turn, and what holds at every moment of a run, for scripts and servers with any states.
-ghost use Rattle.pages.specs.Laws.{ElseNothing, KeptLast, LetOutOnly, Limits, OnlyNamed, ToldIsLetOut, WordsTruly};
+ghost use Rattle.pages.specs.Laws.{RoundLaw, ElseNothing, KeptLast, LetOutOnly, Limits, OnlyNamed, ToldIsLetOut, WordsTruly};
 
 // Only four kinds of things are let out, and only in a turn of a window that is there.
 pub fn let_out_only<S, R>()
@@ -30,4 +30,9 @@ pub fn limits_hold<S, R>()
 // Every window is of a named site, and no other site's server is asked, if the settings open windows of such sites only.
 pub fn only_named<S, R>()
     ensures { λ _. ⌜ OnlyNamed S R ⌝ }
+{}
+
+// In a round each window that is there when it begins has its turn, by number.
+pub fn rounds_hold<S, R>()
+    ensures { λ _. ⌜ RoundLaw S R ⌝ }
 {}

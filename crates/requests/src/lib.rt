@@ -60,7 +60,12 @@ fn host_field<'a>(h: Heads<'a>, v: &'a [u8]) -> Option<Heads<'a>>
     let Some(site) = host_of(v) else {
         return None;
     };
-    Some(Heads { host: Some(site), origin: h.origin, token: h.token, length: h.length })
+    Some(Heads {
+        host: Some(site),
+        origin: h.origin,
+        token: h.token,
+        length: h.length,
+    })
 }
 
 fn origin_field<'a>(h: Heads<'a>, v: &'a [u8]) -> Option<Heads<'a>>
@@ -69,7 +74,12 @@ fn origin_field<'a>(h: Heads<'a>, v: &'a [u8]) -> Option<Heads<'a>>
     let Some(site) = read_site(v) else {
         return None;
     };
-    Some(Heads { host: h.host, origin: Some(site), token: h.token, length: h.length })
+    Some(Heads {
+        host: h.host,
+        origin: Some(site),
+        token: h.token,
+        length: h.length,
+    })
 }
 
 fn token_field<'a>(h: Heads<'a>, v: &'a [u8]) -> Option<Heads<'a>>
@@ -78,7 +88,12 @@ fn token_field<'a>(h: Heads<'a>, v: &'a [u8]) -> Option<Heads<'a>>
     if !is_token(v) {
         return None;
     }
-    Some(Heads { host: h.host, origin: h.origin, token: Some(v), length: h.length })
+    Some(Heads {
+        host: h.host,
+        origin: h.origin,
+        token: Some(v),
+        length: h.length,
+    })
 }
 
 fn length_field<'a>(h: Heads<'a>, v: &[u8]) -> Option<Heads<'a>>
@@ -90,7 +105,12 @@ fn length_field<'a>(h: Heads<'a>, v: &[u8]) -> Option<Heads<'a>>
     let Some(n) = read_number(v, 1024) else {
         return None;
     };
-    Some(Heads { host: h.host, origin: h.origin, token: h.token, length: Some(n) })
+    Some(Heads {
+        host: h.host,
+        origin: h.origin,
+        token: h.token,
+        length: Some(n),
+    })
 }
 
 fn field_by<'a>(h: Heads<'a>, name: &[u8], v: &'a [u8]) -> Option<Heads<'a>>
@@ -138,7 +158,12 @@ fn path_then<'a>(path: &'a [u8], s: &'a [u8]) -> Option<Request<'a>>
     let Some(rest) = strip(s, b" HTTP/1.1\r\n") else {
         return None;
     };
-    let none = Heads { host: None, origin: None, token: None, length: None };
+    let none = Heads {
+        host: None,
+        origin: None,
+        token: None,
+        length: None,
+    };
     let Ok((h, body)) = read_fields(none, rest) else {
         return None;
     };
@@ -151,7 +176,13 @@ fn path_then<'a>(path: &'a [u8], s: &'a [u8]) -> Option<Request<'a>>
     if body.len() != n as usize {
         return None;
     }
-    Some(Request { site, path, origin: h.origin, token: h.token, body })
+    Some(Request {
+        site,
+        path,
+        origin: h.origin,
+        token: h.token,
+        body,
+    })
 }
 
 // Reads a request to its end.
