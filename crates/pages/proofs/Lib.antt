@@ -17,3 +17,4 @@ pub mod Numbered
 pub mod Effects
 pub mod Readings
 pub mod Rounds
+pub mod Term

@@ -165,7 +165,7 @@ ToldIsLetOut S R =
 
 -- THE VIEW LAW. What is of a site after an event is a function of what was of it before and of what the event did to it.
 abbrev pub ViewLaw : Type 0 → Type 0 → Type 0
-ViewLaw S R = (p : Sites S R) (v : ℕ) (e : Event) (w : World S R) → viewOf v (happens p e w) ≡ takesAll p v (effects p v e w) (viewOf v w)
+ViewLaw S R = (p : Sites S R) (v : ℕ) (e : Event) (w : World S R) → _≡_ {A = View S R} (viewOf v (happens p e w)) (takesAll p v (effects p v e w) (viewOf v w))
 
 -- So it is after any number of events.
 abbrev pub HistoryLaw : Type 0 → Type 0 → Type 0

@@ -6,3 +6,4 @@ pub mod Views
 pub mod Promise
 pub mod Laws
 pub mod Cases
+pub mod Code
