@@ -46,7 +46,7 @@ pub struct Response<'a> {
 
 // What the fields said so far.
 #[derive(Clone, Copy)]
-pub struct Heads<'a> {
+struct Heads<'a> {
     kind: Kind,
     length: Option<u32>,
     token: Option<&'a [u8]>,
@@ -104,7 +104,7 @@ fn allowed_field<'a>(h: Heads<'a>, v: &'a [u8]) -> Result<Heads<'a>, MessageFaul
     Ok(Heads { kind: h.kind, length: h.length, token: h.token, allowed: Some(a) })
 }
 
-pub impl<'a> Fields<'a> for Heads<'a> as HeadFields {
+impl<'a> Fields<'a> for Heads<'a> as HeadFields {
     ghost Known = { Known };
 
     ghost known = { knownOf };
