@@ -47,7 +47,7 @@ pub struct Response<'a> {
 
 // What the fields said so far.
 #[derive(Clone, Copy)]
-pub struct Heads<'a> {
+struct Heads<'a> {
     kind: Kind,
     length: Option<u32>,
     token: Option<&'a [u8]>,
@@ -120,7 +120,7 @@ fn allowed_field<'a>(h: Heads<'a>, v: &'a [u8]) -> Result<Heads<'a>, MessageFaul
     })
 }
 
-pub impl<'a> Fields<'a> for Heads<'a> as HeadFields {
+impl<'a> Fields<'a> for Heads<'a> as HeadFields {
     ghost Known = { Known };
 
     ghost known = { knownOf };

@@ -1,5 +1,6 @@
 pub mod Names
 pub mod Named
+pub mod Marks
 pub mod Turns
 pub mod Enough
 pub mod Back

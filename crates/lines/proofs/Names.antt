@@ -11,7 +11,7 @@ use Rattle.std.proofs.shelf.Tests.{and-parts, and-left, cases-bool, true≢fals
 use Rattle.std.proofs.shelf.Lists.{drop-more, drop-all}
 use Rattle.lines.specs.Lines.{small, sameName}
 
-name-length : (xs ys : List ℕ) → sameName xs ys ≡ true → length xs ≡ length ys
+pub name-length : (xs ys : List ℕ) → sameName xs ys ≡ true → length xs ≡ length ys
 name-length [] [] e = refl
 name-length [] (y ∷ ys) e = absurd (true≢false (sym e))
 name-length (x ∷ xs) [] e = absurd (true≢false (sym e))

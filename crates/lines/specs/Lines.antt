@@ -1,7 +1,7 @@
 -- The lines of a message and their parts. Assumes nothing.
 use mathlib.Core.Bool.{Bool, true, false, cond, _&&_, _||_}
 use mathlib.Core.List.{List, [], _∷_, _++_}
-use Prim.Native.Nat.{ℕ, zero, suc, _+_, _-_}
+use Prim.Native.Nat.{ℕ, zero, suc, _+_, _-_, _*_, _%_}
 use lib.Chars.{codes}
 use lib.Dec.{eqb, leb}
 use lib.ListN.{length, take}
@@ -48,6 +48,11 @@ sameName (x ∷ xs) (y ∷ ys) = eqb (small x) (small y) && sameName xs ys
 abbrev pub among : List ℕ → List (List ℕ) → Bool
 among x [] = false
 among x (y ∷ ys) = sameName x y || among x ys
+
+-- where a name is marked: by its length and its first byte, so that two forms of one name are marked at one place
+abbrev pub slot : List ℕ → ℕ
+slot [] = 0
+slot (b ∷ bs) = (length (b ∷ bs) % 128 * 33 + small b) % 128
 
 -- the names of the first k lines
 abbrev pub namesFrom : (List ℕ → List (List ℕ)) → Option (List ℕ × List ℕ) → List (List ℕ)

@@ -1,15 +1,17 @@
 // The fields of a message, read line by line up to the empty line.
 ghost use mathlib.Core.Path.{_≡_};
+ghost use mathlib.Core.Bool.{false};
 ghost use mathlib.Core.List.{List};
 ghost use Prim.Native.Nat.{ℕ};
 ghost use Rattle.bytes.specs.Answers.{Answer};
 ghost use Rattle.lines.specs.Heads.{fields, fieldTaken, Enough};
-ghost use Rattle.lines.specs.Lines.{namesOf};
+ghost use Rattle.lines.specs.Lines.{among, namesOf};
 ghost use Rattle.lines.specs.Views.{answerOf, withRest};
 use crate::MessageFault;
 use crate::field_of;
 use crate::is_named;
 use crate::line_then;
+use crate::slot_of;
 
 // What the fields of a message say, taken one after another.
 pub trait Fields<'a>: Sized + Copy {
@@ -25,19 +27,14 @@ pub trait Fields<'a>: Sized + Copy {
         ensures { λ r. ⌜ answerOf known r ≡ taking (known self) (now (name .entry)) (now (value .entry)) ⌝ };
 }
 
-// One field more; the first k lines of s are before it.
-fn take_field<'a, F: Fields<'a>>(
-    fields: F,
-    s: &'a [u8],
-    k: usize,
-    name: &'a [u8],
-    value: &'a [u8],
-) -> Result<F, MessageFault>
+// One field more; the first k lines of s are before it, and none of them has a name that is not marked.
+fn take_field<'a, F: Fields<'a>>(fields: F, marked: bool, s: &'a [u8], k: usize, name: &'a [u8], value: &'a [u8]) -> Result<F, MessageFault>
+    requires { ⌜ (marked ≡ false → among (now name) (namesOf k (now s)) ≡ false) ⌝ }
     ensures { λ r. ⌜ answerOf (F·Fields .known) r ≡ fieldTaken (F·Fields .taking) (namesOf k (now (s .entry))) (F·Fields .known fields) (now (name .entry), now (value .entry)) ⌝ }
 {
     match fields.take(name, value) {
         Ok(next) => {
-            if is_named(s, k, name) {
+            if marked && is_named(s, k, name) {
                 return Err(MessageFault::Value);
             }
             Ok(next)
@@ -53,6 +50,7 @@ pub fn read_fields<'a, F: Fields<'a>>(none: F, s: &'a [u8]) -> Result<(F, &'a [u
 {
     let mut known = none;
     let mut rest = s;
+    let mut marks = [false; 128];
     for k in 0..s.len() {
         let Some((line, next)) = line_then(rest) else {
             return Err(MessageFault::Unreadable);
@@ -63,10 +61,12 @@ pub fn read_fields<'a, F: Fields<'a>>(none: F, s: &'a [u8]) -> Result<(F, &'a [u
         let Some((name, value)) = field_of(line) else {
             return Err(MessageFault::Unreadable);
         };
-        match take_field(known, s, k, name, value) {
+        let slot = slot_of(name);
+        match take_field(known, marks[slot], s, k, name, value) {
             Ok(more) => {
                 known = more;
                 rest = next;
+                marks[slot] = true;
             }
             Err(e) => return Err(e),
         }

@@ -1,8 +1,8 @@
 // The lines of a message, and the fields that they hold.
 ghost use mathlib.Core.Path.{_≡_};
+ghost use Prim.Native.Nat.{_<_};
 ghost use Rattle.std.specs.Options.{mapped};
-ghost use Rattle.lines.specs.Lines.{lineThen, trimEnd, trim, fieldOf, small, sameName, among, namesOf, tokenOk, tokenFits};
-
+ghost use Rattle.lines.specs.Lines.{lineThen, trimEnd, trim, fieldOf, small, sameName, among, slot, namesOf, tokenOk, tokenFits};
 pub mod heads;
 pub mod written;
 
@@ -82,6 +82,17 @@ pub fn same_name(a: &[u8], b: &[u8]) -> bool
         }
     }
     true
+}
+
+// Where a name is marked: the same place for all forms of it.
+fn slot_of(name: &[u8]) -> usize
+    ensures is { λ r. ⌜ r ≡ slot (now (name .entry)) ⌝ }
+    ensures within { λ r. ⌜ r < 128 ⌝ }
+{
+    if name.is_empty() {
+        return 0;
+    }
+    (name.len() % 128 * 33 + small_of(name[0]) as usize) % 128
 }
 
 // Is the name, without regard to case, that of one of the first k lines?

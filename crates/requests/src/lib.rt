@@ -34,7 +34,7 @@ pub struct Request<'a> {
 
 // What the fields said so far.
 #[derive(Clone, Copy)]
-pub struct Heads<'a> {
+struct Heads<'a> {
     host: Option<Site<'a>>,
     origin: Option<Site<'a>>,
     token: Option<&'a [u8]>,
@@ -134,7 +134,7 @@ fn field_by<'a>(h: Heads<'a>, name: &[u8], v: &'a [u8]) -> Option<Heads<'a>>
     Some(h)
 }
 
-pub impl<'a> Fields<'a> for Heads<'a> as RequestFields {
+impl<'a> Fields<'a> for Heads<'a> as RequestFields {
     ghost Known = { Known };
 
     ghost known = { knownOf };
