@@ -94,10 +94,10 @@ impl Script {
     pub fn new(steps: &[Step]) -> Option<Script>
         ensures { λ r. ⌜ stepsTaken r ≡ cond (leb (length (now (steps .entry))) 2000) (Some (now (steps .entry))) None ⌝ }
     {
-        let count = steps.len();
-        if count > 2000 {
+        if steps.len() > 2000 {
             return None;
         }
+        let count = steps.len();
         let mut script = Script::empty();
         script.steps[0..count].copy_from_slice(steps);
         script.count = count;

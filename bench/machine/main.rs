@@ -1,0 +1,137 @@
+//! Times the proved machine beside the same interpreter in plain Rust: the same pages, turns and memory in both, in one
+//! process, in turns. Prints the steps of each in a second, and the ratio.
+
+mod plain;
+
+use std::time::Instant;
+
+#[link(name = "machine_export", kind = "static")]
+#[link(name = "rattle_c", kind = "static")]
+unsafe extern "C" {
+    fn machine_play(
+        page: *const u8,
+        page_len: usize,
+        turns: u32,
+        bytes: *const u8,
+        bytes_len: usize,
+        memory: *mut u8,
+        memory_len: usize,
+    ) -> u32;
+}
+
+/// The proved machine; its contract asks nothing of its arguments.
+fn proved(page: &[u8], turns: u32, bytes: &[u8], memory: &mut [u8]) -> u32 {
+    unsafe {
+        machine_play(
+            page.as_ptr(),
+            page.len(),
+            turns,
+            bytes.as_ptr(),
+            bytes.len(),
+            memory.as_mut_ptr(),
+            memory.len(),
+        )
+    }
+}
+
+/// One line of a page program: kind, places a, b and c, number.
+type Line = (u8, u8, u8, u8, u32);
+
+fn page(lines: &[Line]) -> Vec<u8> {
+    let mut page = b"PAGE 1".to_vec();
+    page.extend((lines.len() as u16).to_be_bytes());
+    for (kind, a, b, c, number) in lines {
+        page.extend([*kind, *a, *b, *c]);
+        page.extend(number.to_be_bytes());
+    }
+    page
+}
+
+/// Sums, products and comparisons of registers, without end.
+fn arithmetic() -> Vec<u8> {
+    page(&[
+        (0, 4, 0, 0, 1),
+        (0, 6, 0, 0, 1_664_525),
+        (0, 7, 0, 0, 1_013_904_223),
+        (3, 5, 5, 6, 0),
+        (2, 5, 5, 7, 0),
+        (5, 8, 5, 7, 0),
+        (2, 9, 9, 8, 0),
+        (4, 10, 9, 5, 0),
+        (1, 11, 9, 0, 0),
+        (2, 12, 12, 11, 0),
+        (7, 4, 0, 0, 3),
+    ])
+}
+
+/// Walks over the memory again and again, and adds each byte to the next one.
+fn walk() -> Vec<u8> {
+    page(&[
+        (0, 4, 0, 0, 1),
+        (0, 5, 0, 0, 4095),
+        (0, 6, 0, 0, 0),
+        (8, 7, 6, 0, 0),
+        (2, 6, 6, 4, 0),
+        (8, 8, 6, 0, 0),
+        (2, 7, 7, 8, 0),
+        (2, 7, 7, 4, 0),
+        (9, 6, 7, 0, 0),
+        (5, 9, 6, 5, 0),
+        (7, 9, 0, 0, 3),
+        (6, 0, 0, 0, 2),
+    ])
+}
+
+/// Waits in every turn: takes the first of the bytes that it is told, counts, and says them to a window.
+fn turns() -> Vec<u8> {
+    page(&[
+        (0, 4, 0, 0, 1),
+        (0, 20, 0, 0, 0),
+        (8, 6, 20, 0, 0),
+        (2, 7, 7, 6, 0),
+        (2, 8, 8, 4, 0),
+        (1, 21, 1, 0, 0),
+        (10, 8, 2, 20, 2),
+        (6, 0, 0, 0, 2),
+    ])
+}
+
+fn main() {
+    let told: Vec<u8> = (0..1024u32).map(|i| (i * 7 % 251) as u8).collect();
+    let programs: [(&str, Vec<u8>, u32, &[u8]); 3] = [
+        ("arithmetic loop", arithmetic(), 20_000, &[]),
+        ("memory walk", walk(), 20_000, &[]),
+        ("short turns, told 1,024 bytes", turns(), 4_000_000, &told),
+    ];
+    let rounds: u32 = std::env::args().nth(1).and_then(|n| n.parse().ok()).unwrap_or(5);
+    let mut slow = false;
+    println!("{:<32} {:>12} {:>14} {:>14} {:>7}", "", "steps", "proved /s", "plain Rust /s", "ratio");
+    for (name, page, turns, told) in &programs {
+        // the same turns in both leave the same memory and the same count
+        let (mut memory, mut model) = (vec![0u8; 4096], vec![0u8; 4096]);
+        let done = proved(page, *turns, told, &mut memory);
+        let (expected, steps) = plain::play(page, *turns, told, &mut model);
+        assert_eq!((done, &memory), (expected, &model), "{name}: the two differ");
+        // the best of some rounds, one of each in turn
+        let (mut ours, mut theirs) = (f64::MAX, f64::MAX);
+        for _ in 0..rounds {
+            memory.fill(0);
+            let start = Instant::now();
+            let done = proved(page, *turns, told, &mut memory);
+            ours = ours.min(start.elapsed().as_secs_f64());
+            model.fill(0);
+            let start = Instant::now();
+            let (expected, _) = plain::play(page, *turns, told, &mut model);
+            theirs = theirs.min(start.elapsed().as_secs_f64());
+            assert_eq!((done, &memory), (expected, &model), "{name}: the two differ");
+        }
+        let (ours, theirs) = (steps as f64 / ours, steps as f64 / theirs);
+        let ratio = ours / theirs;
+        slow |= ratio < 0.9;
+        println!("{name:<32} {steps:>12} {ours:>14.0} {theirs:>14.0} {ratio:>7.2}");
+    }
+    if slow {
+        println!("below 0.9 of plain Rust");
+        std::process::exit(1);
+    }
+}
