@@ -1,0 +1,3 @@
+// Settings.
+pub mod lines;
+pub mod table;
