@@ -7,7 +7,7 @@ use lib.Dec.{eqb}
 use lib.ListN.{length}
 use Rattle.std.specs.declared.option.Option.{Option}
 use Rattle.std.specs.declared.option.Option.the-variants.{Some, None}
-use Rattle.bytes.specs.declared.Class.the-variants.{Digit}
+use Rattle.bytes.specs.declared.Class.the-variants.{Digit, Line}
 use Rattle.bytes.specs.Answers.{Answer, Read, Fault}
 use Rattle.bytes.specs.Classes.{has}
 use Rattle.bytes.specs.Fronts.{andThen, after, front, past}
@@ -68,3 +68,11 @@ turnFrom (Some ds) l = andThen (count ds) (λ n. Some (Window n))
 -- a line of turns
 abbrev pub turnLine : List ℕ → Option TurnLine
 turnLine l = turnFrom (after (codes "turn ") l) l
+
+-- the first line, and what follows its newline
+abbrev pub lineThen : List ℕ → Option (List ℕ × List ℕ)
+lineThen s = andThen (after (10 ∷ []) (past (has Line) s)) (λ t. Some (front (has Line) s, t))
+
+-- what a reader of lines finds in the first line, and what follows its newline
+abbrev pub nextBy : {A : Type 0} → (List ℕ → Option A) → List ℕ → Option (A × List ℕ)
+nextBy read s = andThen (lineThen s) (λ p. andThen (read (p .0)) (λ x. Some (x, p .1)))

@@ -31,6 +31,10 @@ abbrev pub place : List ℕ × ℕ → List (List ℕ × ℕ) → ℕ
 place s [] = 0
 place s (x ∷ xs) = cond (sameSite s x) 0 (1 + place s xs)
 
+-- the number of a site, if it has one
+abbrev pub numberOf : List ℕ × ℕ → List (List ℕ × ℕ) → Option ℕ
+numberOf s xs = cond (ltb (place s xs) (length xs)) (Some (place s xs)) None
+
 -- the sites once s is named too
 abbrev pub named : List ℕ × ℕ → List (List ℕ × ℕ) → List (List ℕ × ℕ)
 named s xs = cond (ltb (place s xs) (length xs)) xs (xs ++ (s ∷ []))
@@ -77,15 +81,19 @@ abbrev pub linesFrom : Config → ℕ → List (Option (List ℕ)) → Outcome C
 linesFrom c k [] = Good c
 linesFrom c k (l ∷ ls) = headThen c (andThen l headLine) k (λ d. linesFrom d (k + 1) ls) (withTurns c (turnsFrom k (l ∷ ls)))
 
+abbrev pub noSettings : Config
+noSettings = record { sites = []; opens = []; turns = [] }
+
 -- the whole text, its lines counted from 1
 abbrev pub readSettings : List ℕ → Outcome Config
-readSettings s = linesFrom (record { sites = []; opens = []; turns = [] }) 1 (lines s)
+readSettings s = linesFrom noSettings 1 (lines s)
+
+-- a line of turns and those after it; none if it is no such line
+abbrev pub turnAnd : Option TurnLine → List TurnLine → List TurnLine
+turnAnd None ts = []
+turnAnd (Some t) ts = t ∷ ts
 
 -- the lines of turns at the front
 abbrev pub turnsOf : List (Option (List ℕ)) → List TurnLine
 turnsOf [] = []
-turnsOf (l ∷ ls) = keptTurn (andThen l turnLine) (turnsOf ls)
-  where
-  keptTurn : Option TurnLine → List TurnLine → List TurnLine
-  keptTurn None ts = []
-  keptTurn (Some t) ts = t ∷ ts
+turnsOf (l ∷ ls) = turnAnd (andThen l turnLine) (turnsOf ls)

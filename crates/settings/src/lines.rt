@@ -5,7 +5,7 @@ ghost use Rattle.std.specs.Options.{mapped};
 ghost use Rattle.bytes.specs.declared.Class.the-variants.{Digit};
 ghost use Rattle.bytes.specs.Classes.{has};
 ghost use Rattle.bytes.specs.Fronts.{after, front, past};
-ghost use Rattle.settings.specs.Lines.{count, headLine, roundsFrom, turnLine};
+ghost use Rattle.settings.specs.Lines.{count, headLine, roundsFrom, turnLine, lineThen, nextBy};
 ghost use Rattle.settings.specs.Heads.{headOf};
 use addresses::Address;
 use addresses::read_address;
@@ -84,4 +84,41 @@ pub(crate) fn read_turn(line: &[u8]) -> Option<TurnLine>
         return None;
     };
     Some(TurnLine::Window(n))
+}
+
+// The first line, and what follows its newline.
+fn line_then(s: &[u8]) -> Option<(&[u8], &[u8])>
+    ensures { λ r. ⌜ mapped (λ p. (p .0 .now, p .1 .now)) r ≡ lineThen (now (s .entry)) ⌝ }
+{
+    let (line, end) = split(Class::Line, s);
+    let Some(rest) = strip(end, b"\n") else {
+        return None;
+    };
+    Some((line, rest))
+}
+
+// The first line, if it names a site, and what follows it.
+pub(crate) fn next_head(s: &[u8]) -> Option<(Head<'_>, &[u8])>
+    ensures { λ r. ⌜ mapped (λ p. (headOf (p .0), p .1 .now)) r ≡ nextBy headLine (now (s .entry)) ⌝ }
+{
+    let Some((line, rest)) = line_then(s) else {
+        return None;
+    };
+    let Some(head) = read_head(line) else {
+        return None;
+    };
+    Some((head, rest))
+}
+
+// The first line, if it is one of turns, and what follows it.
+pub(crate) fn next_turn(s: &[u8]) -> Option<(TurnLine, &[u8])>
+    ensures { λ r. ⌜ mapped (λ p. (p .0, p .1 .now)) r ≡ nextBy turnLine (now (s .entry)) ⌝ }
+{
+    let Some((line, rest)) = line_then(s) else {
+        return None;
+    };
+    let Some(turn) = read_turn(line) else {
+        return None;
+    };
+    Some((turn, rest))
 }

@@ -1,51 +1,55 @@
-// A table of up to 16 values, numbered in the order in which they came.
+// A table of up to 16 values, numbered from 0 in the order in which they came.
 ghost use mathlib.Core.Path.{_≡_};
-ghost use mathlib.Core.List.{List, [], _∷_, _++_};
+ghost use mathlib.Core.List.{[], _∷_, _++_};
 ghost use mathlib.Core.Bool.{cond};
-ghost use Prim.Native.Nat.{ℕ, _<_, _≤_};
 ghost use lib.Dec.{ltb};
 ghost use lib.ListN.{length, take};
+ghost use Rattle.std.specs.declared.option.Option.the-variants.{Some, None};
 ghost use Rattle.std.specs.shelf.Maps.{nth};
+ghost use Rattle.settings.specs.Tables.{itemsOf, Sound};
 
-#[derive(Drop)]
+#[derive(Clone, Copy)]
 pub struct Table<T> {
     items: [T; 16],
     len: usize,
-    ghost full: { length items ≡ 16 },
-    ghost within: { len ≤ 16 },
+}
+
+// What stands at place i of the first n. (By value: of an array behind a reference the prover knows no length.)
+fn at<T: Copy>(items: [T; 16], n: usize, i: usize) -> Option<T>
+    ensures { λ r. ⌜ r ≡ nth (take n items) i ⌝ }
+{
+    if i < n && i < 16 { Some(items[i]) } else { None }
 }
 
 impl<T: Copy> Table<T> {
     // An empty table; `blank` stands at the places that hold nothing.
     pub(crate) fn new(blank: T) -> Table<T>
-        ensures { λ r. ⌜ take (r .len) (r .items) ≡ [] ⌝ }
+        ensures is { λ r. ⌜ itemsOf r ≡ [] ⌝ }
+        ensures sound { λ r. ⌜ Sound r ⌝ }
     {
         Table { items: [blank; 16], len: 0 }
     }
 
-    pub fn len(&self) -> usize
-        ensures { λ r. ⌜ r ≡ length (take (now (self .entry) .len) (now (self .entry) .items)) ⌝ }
-    {
-        self.len
-    }
-
     // The value of a number.
     pub fn get(&self, i: usize) -> Option<T>
-        ensures { λ r. ⌜ r ≡ nth (take (now (self .entry) .len) (now (self .entry) .items)) i ⌝ }
+        ensures { λ r. ⌜ r ≡ nth (itemsOf (now (self .entry))) i ⌝ }
     {
-        if i < self.len { Some(self.items[i]) } else { None }
+        at(self.items, self.len, i)
     }
 
-    // One more at the end; false, and nothing done, where it is full.
-    pub(crate) fn push(&mut self, x: T) -> bool
-        ensures is { λ r. ⌜ r ≡ ltb (length (take (now (self .entry) .len) (now (self .entry) .items))) 16 ⌝ }
-        ensures left { λ r. ⌜ take (now (self .exit) .len) (now (self .exit) .items) ≡ cond (ltb (length (take (now (self .entry) .len) (now (self .entry) .items))) 16) (take (now (self .entry) .len) (now (self .entry) .items) ++ (x ∷ [])) (take (now (self .entry) .len) (now (self .entry) .items)) ⌝ }
+    // One more at the end, and its number; nothing is done where it is full.
+    pub(crate) fn push(&mut self, x: T) -> Option<usize>
+        requires { ⌜ Sound (now self) ⌝ }
+        ensures is { λ r. ⌜ r ≡ cond (ltb (length (itemsOf (now (self .entry)))) 16) (Some (length (itemsOf (now (self .entry))))) None ⌝ }
+        ensures left { λ _. ⌜ itemsOf (now (self .exit)) ≡ cond (ltb (length (itemsOf (now (self .entry)))) 16) (itemsOf (now (self .entry)) ++ (x ∷ [])) (itemsOf (now (self .entry))) ⌝ }
+        ensures sound { λ _. ⌜ Sound (now (self .exit)) ⌝ }
     {
-        if self.len >= 16 {
-            return false;
+        let n = self.len;
+        if n >= 16 {
+            return None;
         }
-        self.items[self.len] = x;
-        self.len += 1;
-        true
+        self.items[n] = x;
+        self.len = n + 1;
+        Some(n)
     }
 }
