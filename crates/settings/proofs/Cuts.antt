@@ -26,7 +26,7 @@ lines-append [] t e = refl
 lines-append (b ∷ l) t e =
     ⊎-elim
     (λ y. let e′ : leading (has Line) l ≡ length l = omega (arith, sym (cond-true (has Line b) (1 + leading (has Line) l) 0 y) ∙ e) in
-      cond-false _ _ _ (not-true (eqb b 10) y) ∙ ap (grown b) (lines-append l t e′))
+    cond-false _ _ _ (not-true (eqb b 10) y) ∙ ap (grown b) (lines-append l t e′))
     (λ n. let z : 0 ≡ suc (length l) = sym (cond-false (has Line b) (1 + leading (has Line) l) 0 n) ∙ e in absurd (omega arith))
     (cases-bool (has Line b))
 
@@ -37,9 +37,10 @@ line-some s l t e =
     let same = some-same (front (has Line) s, h .0) (l, t) (h .2) in
     let end : past (has Line) s ≡ 10 ∷ t = after-some (10 ∷ []) (past (has Line) s) (h .0) (h .1) ∙ ap (λ p. 10 ∷ p .1) same in
     let whole : front (has Line) s ++ past (has Line) s ≡ s = take-append-drop (leading (has Line) s) s in
-    let cut : s ≡ front (has Line) s ++ (10 ∷ t) = sym whole ∙ ap (λ r. front (has Line) s ++ r) end in
-    (ap lines cut ∙ lines-append (front (has Line) s) t (all-front (has Line) (has Line) (λ b y. y) s) ∙ ap (λ p. Some (p .0) ∷ lines t) same,
-     omega (arith, ap length cut, length-append (front (has Line) s) (10 ∷ t)))
+    let cut : s ≡ front (has Line) s ++ (10 ∷ t) = sym whole ∙ ap (λ r. front (has Line) s ++ r) end in (
+      ap lines cut ∙ lines-append (front (has Line) s) t (all-front (has Line) (has Line) (λ b y. y) s) ∙ ap (λ p. Some (p .0) ∷ lines t) same,
+      omega (arith, ap length cut, length-append (front (has Line) s) (10 ∷ t)),
+    )
 
 -- what is left where there is no newline: nothing, or a line that can't be read
 abbrev pub unended : List ℕ → List (Option (List ℕ))
@@ -59,12 +60,12 @@ no-newline [] e = refl
 no-newline (b ∷ s) e =
     ⊎-elim
     (λ y. let n : leading (has Line) (b ∷ s) ≡ suc (leading (has Line) s) = cond-true _ (1 + leading (has Line) s) 0 y ∙ one-add _ in
-      let e′ : after (10 ∷ []) (past (has Line) s) ≡ None = sym (λ i. after (10 ∷ []) (drop (n i) (b ∷ s))) ∙ e in
-      cond-false _ _ _ (not-true (eqb b 10) y) ∙ ap (grown b) (no-newline s e′) ∙ grown-unended b s)
+    let e′ : after (10 ∷ []) (past (has Line) s) ≡ None = sym (λ i. after (10 ∷ []) (drop (n i) (b ∷ s))) ∙ e in
+    cond-false _ _ _ (not-true (eqb b 10) y) ∙ ap (grown b) (no-newline s e′) ∙ grown-unended b s)
     (λ y. let n : leading (has Line) (b ∷ s) ≡ 0 = cond-false _ (1 + leading (has Line) s) 0 y in
-      let newline : b ≡ 10 = eqb-true b 10 (not-false (eqb b 10) y) in
-      let e′ : cond (eqb 10 b) (Some s) None ≡ None = sym (λ i. after (10 ∷ []) (drop (n i) (b ∷ s))) ∙ e in
-      absurd (none-some s (sym e′ ∙ cond-true (eqb 10 b) (Some s) None (eq-eqb 10 b (sym newline)))))
+    let newline : b ≡ 10 = eqb-true b 10 (not-false (eqb b 10) y) in
+    let e′ : cond (eqb 10 b) (Some s) None ≡ None = sym (λ i. after (10 ∷ []) (drop (n i) (b ∷ s))) ∙ e in
+    absurd (none-some s (sym e′ ∙ cond-true (eqb 10 b) (Some s) None (eq-eqb 10 b (sym newline)))))
     (cases-bool (has Line b))
 
 pub line-none : (s : List ℕ) → lineThen s ≡ None → lines s ≡ unended s
@@ -81,12 +82,16 @@ module _ {A : Type 0} (read : List ℕ → Option A) where
       let c = line-some s (p .0) (p .1) (h .1) in
       (p .0, c .0 ∙ ap (λ q. Some (p .0) ∷ lines (q .1)) same, k .1 ∙ ap (λ q. Some (q .0)) same, omega (arith, c .1, ap (λ q. length (q .1)) same))
 
-  -- no line is left, or the first can't be read
-  pub next-none : (s : List ℕ) (b : ℕ) (r : List ℕ) → s ≡ b ∷ r → nextBy read s ≡ None → (l : Option (List ℕ)) × (ls : List (Option (List ℕ))) × (lines s ≡ l ∷ ls) × (andThen l read ≡ None)
-  next-none s b r q e = go (lineThen s) refl
+  -- a first line that it can't read
+  pub next-none : (s : List ℕ) → 0 < length s → nextBy read s ≡ None → (l : Option (List ℕ)) × (ls : List (Option (List ℕ))) × (lines s ≡ l ∷ ls) × (andThen l read ≡ None)
+  next-none [] h e = absurd (omega arith)
+  next-none (b ∷ s) h e = go (lineThen (b ∷ s)) refl
     where
-    go : (o : Option (List ℕ × List ℕ)) → lineThen s ≡ o → (l : Option (List ℕ)) × (ls : List (Option (List ℕ))) × (lines s ≡ l ∷ ls) × (andThen l read ≡ None)
-    go None k = (None, [], line-none s k ∙ ap unended q, refl)
-    go (Some p) k =
-        (Some (p .0), lines (p .1), line-some s (p .0) (p .1) k .0,
-         then-none (read (p .0)) (λ y. (y, p .1)) (sym (ap (λ o. andThen o (λ p. andThen (read (p .0)) (λ y. Some (y, p .1)))) k) ∙ e))
+      go : (o : Option (List ℕ × List ℕ)) → lineThen (b ∷ s) ≡ o → (l : Option (List ℕ)) × (ls : List (Option (List ℕ))) × (lines (b ∷ s) ≡ l ∷ ls) × (andThen l read ≡ None)
+      go None k = (None, [], line-none (b ∷ s) k, refl)
+      go (Some p) k = (
+        Some (p .0),
+        lines (p .1),
+        line-some (b ∷ s) (p .0) (p .1) k .0,
+        then-none (read (p .0)) (λ y. (y, p .1)) (sym (ap (λ o. andThen o (λ q. andThen (read (q .0)) (λ y. Some (y, q .1)))) k) ∙ e),
+      )

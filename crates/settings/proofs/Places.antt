@@ -23,9 +23,10 @@ use Rattle.settings.specs.Settings.{Config, sameSite, place, numberOf, named, 
 -- the test is equality
 pub same-decides : (a b : List ℕ × ℕ) → Decides (sameSite a b) (a ≡ b)
 same-decides a b =
-    let hosts = sameBytes-decides (a .0) (b .0) in
-    (λ e. let p = and-parts (eqb (a .1) (b .1)) (sameBytes (a .0) (b .0)) e in (λ i. (hosts .0 (p .1) i, eqb-true (a .1) (b .1) (p .0) i)),
-     λ e. and-from (eqb (a .1) (b .1)) (sameBytes (a .0) (b .0)) (eq-eqb (a .1) (b .1) (ap (λ x. x .1) e)) (hosts .1 (ap (λ x. x .0) e)))
+    let hosts = sameBytes-decides (a .0) (b .0) in (
+      λ e. let p = and-parts (eqb (a .1) (b .1)) (sameBytes (a .0) (b .0)) e in (λ i. (hosts .0 (p .1) i, eqb-true (a .1) (b .1) (p .0) i)),
+      λ e. and-from (eqb (a .1) (b .1)) (sameBytes (a .0) (b .0)) (eq-eqb (a .1) (b .1) (ap (λ x. x .1) e)) (hosts .1 (ap (λ x. x .0) e)),
+    )
 
 -- two tests of one thing are the same test
 both-decide : (P : Type 0) (r t : Bool) → Decides r P → Decides t P → r ≡ t
@@ -128,13 +129,15 @@ module _ (c : Config) (h : Bool × (List ℕ × ℕ × List ℕ)) (ys : List (Li
   pub added-site : h .0 ≡ false → length (c .opens) ≤ 16 → (true ≡ few (added c h)) × (record { sites = ys; opens = c .opens; turns = c .turns } ≡ added c h)
   unfolding window
   added-site shut most =
-      let same : opened (h .0) window (c .opens) ≡ c .opens = ap (λ b. opened b window (c .opens)) shut in
-      (sym (and-from _ _ fits (ap (λ l. leb (length l) 16) same ∙ le-leb (length (c .opens)) 16 most)),
-       λ i. record { sites = sites i; opens = sym same i; turns = c .turns })
+      let same : opened (h .0) window (c .opens) ≡ c .opens = ap (λ b. opened b window (c .opens)) shut in (
+        sym (and-from _ _ fits (ap (λ l. leb (length l) 16) same ∙ le-leb (length (c .opens)) 16 most)),
+        λ i. record { sites = sites i; opens = sym same i; turns = c .turns },
+      )
 
   pub added-window : h .0 ≡ true → (os : List (ℕ × List ℕ)) (r : Bool) → r ≡ ltb (length (c .opens)) 16 → (r ≡ true → os ≡ c .opens ++ ((n, h .1 .2) ∷ [])) → (r ≡ few (added c h)) × (r ≡ true → record { sites = ys; opens = os; turns = c .turns } ≡ added c h)
   unfolding window
   added-window wide os r test new =
-      let more : opened (h .0) window (c .opens) ≡ c .opens ++ (window ∷ []) = ap (λ b. opened b window (c .opens)) wide in
-      (test ∙ sym (one-more (c .opens) window) ∙ sym (ap (λ l. leb (length l) 16) more) ∙ sym (ap (λ b. b && leb (length (opened (h .0) window (c .opens))) 16) fits),
-       λ e. λ i. record { sites = sites i; opens = (new e ∙ ap (λ k. c .opens ++ ((k, h .1 .2) ∷ [])) at ∙ sym more) i; turns = c .turns })
+      let more : opened (h .0) window (c .opens) ≡ c .opens ++ (window ∷ []) = ap (λ b. opened b window (c .opens)) wide in (
+        test ∙ sym (one-more (c .opens) window) ∙ sym (ap (λ l. leb (length l) 16) more) ∙ sym (ap (λ b. b && leb (length (opened (h .0) window (c .opens))) 16) fits),
+        λ e. λ i. record { sites = sites i; opens = (new e ∙ ap (λ k. c .opens ++ ((k, h .1 .2) ∷ [])) at ∙ sym more) i; turns = c .turns },
+      )

@@ -47,10 +47,10 @@ opened true o os = os ++ (o ∷ [])
 -- the settings after a line that names a site
 abbrev pub added : Config → Bool × (List ℕ × ℕ × List ℕ) → Config
 added c h = record {
-    sites = named (h .1 .0, h .1 .1) (c .sites);
-    opens = opened (h .0) (place (h .1 .0, h .1 .1) (c .sites), h .1 .2) (c .opens);
-    turns = c .turns
-  }
+  sites = named (h .1 .0, h .1 .1) (c .sites);
+  opens = opened (h .0) (place (h .1 .0, h .1 .1) (c .sites), h .1 .2) (c .opens);
+  turns = c .turns;
+}
 
 -- at most 16 sites and 16 windows
 abbrev pub few : Config → Bool

@@ -95,7 +95,11 @@ impl<'a> Settings<'a> {
     {
         let site: Site<'a> = Site { host: b"", port: 0 };
         let open: Open<'a> = Open { site: 0, path: b"" };
-        Settings { sites: Table::new(site), opens: Table::new(open), turns: Turns { text: b"" } }
+        Settings {
+            sites: Table::new(site),
+            opens: Table::new(open),
+            turns: Turns { text: b"" },
+        }
     }
 
     // Takes in a line that names a site; false if it is one too many.
@@ -106,14 +110,21 @@ impl<'a> Settings<'a> {
         ensures sound { λ _. ⌜ Sound (now (self .exit) .sites) ⌝ ∗ ⌜ Sound (now (self .exit) .opens) ⌝ }
     {
         let address = head.address;
-        let site = Site { host: address.host, port: address.port };
+        let site = Site {
+            host: address.host,
+            port: address.port,
+        };
         let Some(n) = name_site(&mut self.sites, site) else {
             return false;
         };
         if !head.opens {
             return true;
         }
-        let Some(_) = self.opens.push(Open { site: n, path: address.path }) else {
+        let Some(_) = self.opens.push(Open {
+            site: n,
+            path: address.path,
+        })
+        else {
             return false;
         };
         true
@@ -134,7 +145,10 @@ fn check_turns(text: &[u8], before: usize) -> Result<(), Refusal>
     if rest.is_empty() {
         return Ok(());
     }
-    Err(Refusal { fault: Fault::Unreadable, line: line + 1 })
+    Err(Refusal {
+        fault: Fault::Unreadable,
+        line: line + 1,
+    })
 }
 
 // Reads settings to their end or to the first fault.
@@ -147,12 +161,19 @@ pub fn read_settings(text: &[u8]) -> Result<Settings<'_>, Refusal>
     while let Some((head, next)) = next_head(rest) {
         line += 1;
         if !settings.add(head) {
-            return Err(Refusal { fault: Fault::TooMany, line });
+            return Err(Refusal {
+                fault: Fault::TooMany,
+                line,
+            });
         }
         rest = next;
     }
     check_turns(rest, line)?;
-    Ok(Settings { sites: settings.sites, opens: settings.opens, turns: Turns { text: rest } })
+    Ok(Settings {
+        sites: settings.sites,
+        opens: settings.opens,
+        turns: Turns { text: rest },
+    })
 }
 
 impl<'a> Turns<'a> {

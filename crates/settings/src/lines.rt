@@ -47,7 +47,10 @@ pub(crate) fn read_head(line: &[u8]) -> Option<Head<'_>>
         let Ok(address) = read_address(t) else {
             return None;
         };
-        return Some(Head { opens: true, address });
+        return Some(Head {
+            opens: true,
+            address,
+        });
     }
     let Some(t) = strip(line, b"site ") else {
         return None;
@@ -55,7 +58,10 @@ pub(crate) fn read_head(line: &[u8]) -> Option<Head<'_>>
     let Ok(address) = read_address(t) else {
         return None;
     };
-    Some(Head { opens: false, address })
+    Some(Head {
+        opens: false,
+        address,
+    })
 }
 
 fn read_rounds(line: &[u8]) -> Option<TurnLine>

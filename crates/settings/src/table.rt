@@ -18,7 +18,11 @@ pub struct Table<T> {
 fn at<T: Copy>(items: [T; 16], n: usize, i: usize) -> Option<T>
     ensures { λ r. ⌜ r ≡ nth (take n items) i ⌝ }
 {
-    if i < n && i < 16 { Some(items[i]) } else { None }
+    if i < n && i < 16 {
+        Some(items[i])
+    } else {
+        None
+    }
 }
 
 impl<T: Copy> Table<T> {
@@ -27,7 +31,10 @@ impl<T: Copy> Table<T> {
         ensures is { λ r. ⌜ itemsOf r ≡ [] ⌝ }
         ensures sound { λ r. ⌜ Sound r ⌝ }
     {
-        Table { items: [blank; 16], len: 0 }
+        Table {
+            items: [blank; 16],
+            len: 0,
+        }
     }
 
     // The value of a number.

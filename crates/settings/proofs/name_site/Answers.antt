@@ -28,5 +28,5 @@ returns c =
     record {
       is = c .push .ensures .is ∙ pushed-number siteOf (c .args .site) (itemsOf t) new;
       left = ap (map siteOf) (c .push .ensures .left) ∙ pushed-sites siteOf (c .args .site) (itemsOf t) new;
-      sound = c .push .ensures .sound
+      sound = c .push .ensures .sound;
     }

@@ -30,7 +30,7 @@ returns c =
     let fits = cond-some _ _ _ (sym (c .in-Some .ensures tt .is)) in
     let room = cond-some _ _ _ (sym (c .in-Some-push .ensures tt .is)) in
     let h = added-window (settingsOf me) (headOf (c .args .head)) (sitesIn (c .name-site .last .sites)) (c .in-Some .n) (fits .0) (c .name-site .ensures .left ∙ cond-true _ _ _ (fits .0)) (sym (some-same _ _ (fits .1))) (c .if-not-head .left)
-        (opensIn (c .push .last .self)) true
-        (sym (ap (λ k. ltb k 16) (length-map (itemsOf t) openOf) ∙ room .0))
-        (λ _. ap (map openOf) (c .push .ensures .left ∙ cond-true _ _ _ (room .0)) ∙ map-append openOf (itemsOf t) _) in
+    (opensIn (c .push .last .self)) true
+    (sym (ap (λ k. ltb k 16) (length-map (itemsOf t) openOf) ∙ room .0))
+    (λ _. ap (map openOf) (c .push .ensures .left ∙ cond-true _ _ _ (room .0)) ∙ map-append openOf (itemsOf t) _) in
     record { is = h .0; left = h .1; sound = (c .name-site .ensures .sound, c .push .ensures .sound) }

@@ -17,5 +17,5 @@ returns g c =
     record {
       is = ap Some (sym long) ∙ sym (cond-true _ _ _ fits);
       left = take-more-set (t .items) (t .len) (c .args .x) (omega (arith, c .pre)) ∙ sym (cond-true _ _ _ fits);
-      sound = record { full = length-set _ _ _ ∙ c .pre .full; within = omega arith }
+      sound = record { full = length-set _ _ _ ∙ c .pre .full; within = omega arith };
     }
