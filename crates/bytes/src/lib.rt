@@ -28,6 +28,8 @@ pub enum Class {
     Token,
     // space and tab
     Blank,
+    // all but the newline
+    Line,
 }
 
 fn is_token(b: u8) -> bool
@@ -50,6 +52,7 @@ pub fn is_of(c: Class, b: u8) -> bool
         Class::Text => (b == b'\t' || b >= b' ') && b != 127,
         Class::Token => is_token(b),
         Class::Blank => b == b'\t' || b == b' ',
+        Class::Line => b != b'\n',
     }
 }
 
