@@ -1,3 +1,4 @@
 pub mod Sites
 pub mod Digits
 pub mod Back
+pub mod Limited

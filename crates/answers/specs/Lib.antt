@@ -2,3 +2,4 @@ pub mod Answers
 pub mod Seen
 pub mod Written
 pub mod Views
+pub mod Within

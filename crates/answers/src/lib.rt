@@ -6,6 +6,7 @@ ghost use Rattle.answers.specs.Answers.{limit, Known, lengthField, tokenField,
 ghost use Rattle.answers.specs.Views.{allowsBy, knownOf, contentOf};
 
 pub mod seen;
+pub mod within;
 pub mod write;
 
 use addresses::Site;

@@ -6,3 +6,4 @@ pub mod Enough
 pub mod Back
 pub mod Values
 pub mod Pieces
+pub mod Kept
