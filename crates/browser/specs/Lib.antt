@@ -1,0 +1,4 @@
+pub mod Wire
+pub mod Values
+pub mod Parts
+pub mod Halves

@@ -1,0 +1,3 @@
+// The browser by value: a turn in two calls.
+pub mod browser;
+pub mod values;
