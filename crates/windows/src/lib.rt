@@ -1,0 +1,7 @@
+// A window of the browser: the script of its page, what it is told, and the words that wait for it.
+mod loading;
+mod window;
+
+pub use loading::script_of;
+pub use window::Window;
+pub use window::Word;
