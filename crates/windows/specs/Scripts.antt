@@ -76,12 +76,20 @@ abbrev pub unreadableIn : Option Bytes → Option Unreadable
 unreadableIn None = None
 unreadableIn (Some page) = faultIn (pageIn page)
 
--- THE SCRIPTS that the machine runs, where so many sites are named: the same machine for every site.
+-- What a script does in a state, where so many sites are named, when it is told something.
+abbrev pub actIn : ℕ → State → Told → Act
+actIn n x told = actBy (actionIn n x (machineTold told) (bytesTold told))
+
+-- Its next state.
+abbrev pub stateIn : ℕ → State → Told → State
+stateIn n x told = stateAfter n x (machineTold told) (bytesTold told)
+
+-- THE SCRIPTS that the machine runs: the same machine for every site.
 abbrev pub byMachine : ℕ → Scripts State
 byMachine n = record {
   sites = n;
-  act = λ site x told. actBy (actionIn n x (machineTold told) (bytesTold told));
-  next = λ site x told. stateAfter n x (machineTold told) (bytesTold told);
+  act = λ site x told. actIn n x told;
+  next = λ site x told. stateIn n x told;
   begin = λ site page. initial (stepsFrom page);
 }
 
