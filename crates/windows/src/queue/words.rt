@@ -1,0 +1,45 @@
+// Words come in at the end and go out at the front.
+ghost use mathlib.Core.Path.{_≡_};
+ghost use mathlib.Core.List.{[]};
+ghost use Rattle.pages.specs.Browser.{otherWords};
+ghost use Rattle.std.specs.Options.{mapped};
+ghost use Rattle.windows.specs.Queues.{wordOf, wordsOf, appended, oldest};
+use super::Queue;
+use super::Word;
+
+impl Queue {
+    // No words. The places are filled with one that is never told.
+    pub(crate) fn empty(filler: Word) -> Queue
+        ensures { λ r. ⌜ wordsOf r ≡ [] ⌝ }
+    {
+        Queue {
+            words: [filler; 8],
+            count: 0,
+        }
+    }
+
+    // One word more, if fewer than eight wait.
+    pub(crate) fn push(&mut self, word: &Word)
+        ensures { λ _. ⌜ wordsOf (now (self .exit)) ≡ appended (wordOf (now (word .entry))) (wordsOf (now (self .entry))) ⌝ }
+    {
+        let n = self.count;
+        if n < 8 {
+            self.words[n] = *word;
+            self.count = n + 1;
+        }
+    }
+
+    // The oldest word, if one waits. It waits no more.
+    pub(crate) fn pop(&mut self) -> Option<Word>
+        ensures word { λ r. ⌜ mapped wordOf r ≡ oldest (wordsOf (now (self .entry))) ⌝ }
+        ensures others { λ _. ⌜ wordsOf (now (self .exit)) ≡ otherWords (wordsOf (now (self .entry))) ⌝ }
+    {
+        if self.count == 0 {
+            return None;
+        }
+        let word = self.words[0];
+        self.words.rotate_left(1);
+        self.count -= 1;
+        Some(word)
+    }
+}
