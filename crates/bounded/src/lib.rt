@@ -1,3 +1,3 @@
-// Bytes by value: at most so many, with no memory claimed.
-pub mod make;
+// Values with a bound in their type: bytes by value, with no memory claimed, and the numbers of sites.
+pub mod site;
 pub mod text;

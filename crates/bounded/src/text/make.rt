@@ -27,8 +27,9 @@ impl<const N: usize> Text<N> {
             return None;
         }
         let mut bytes = [0; N];
-        let room = &mut bytes[..];
-        room[0..len].copy_from_slice(part);
+        for (i, b) in part.iter().enumerate() {
+            bytes[i] = *b;
+        }
         Some(Text { len, bytes })
     }
 
