@@ -3,7 +3,7 @@ ghost use Prim.Native.Nat.{ℕ, _≤_};
 ghost use lib.ListN.{length, getD};
 ghost use Rattle.std.specs.Of.Vec.{vec-len};
 
-pub mod access;
+mod access;
 
 // What each site keeps: the first bytes of its part of one block.
 #[derive(Drop)]

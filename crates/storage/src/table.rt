@@ -7,7 +7,7 @@ ghost use Rattle.addresses.specs.Address.{siteOk};
 ghost use Rattle.bounded.specs.Texts.{textOf};
 use bounded::text::Text;
 
-pub mod access;
+mod access;
 
 // A site of the table. A host has at most 8 labels of 63 bytes, and 7 dots.
 #[derive(Clone, Copy)]

@@ -2,7 +2,7 @@ ghost use mathlib.Core.Path.{_≡_};
 ghost use lib.ListN.{length};
 use bounded::text::Text;
 
-pub mod access;
+mod access;
 
 // One token per site, if its server set one. None is not the empty one.
 #[derive(Clone, Copy)]

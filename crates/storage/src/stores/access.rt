@@ -11,7 +11,7 @@ ghost use Rattle.pages.specs.Browser.{at};
 ghost use Rattle.bounded.specs.Numbers.{numberOf};
 ghost use Rattle.storage.specs.Storage.{storesOf};
 use super::Stores;
-use bounded::number::SiteNumber;
+use bounded::site::SiteNumber;
 use std::alloc::AllocError;
 use std::alloc::Global;
 

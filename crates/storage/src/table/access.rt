@@ -13,7 +13,7 @@ use super::Row;
 use super::Table;
 use addresses::Site;
 use addresses::is_site;
-use bounded::number::SiteNumber;
+use bounded::site::SiteNumber;
 use bounded::text::Text;
 
 impl Table {

@@ -9,7 +9,7 @@ ghost use Rattle.bounded.specs.Texts.{textOf};
 ghost use Rattle.bounded.specs.Numbers.{numberOf};
 ghost use Rattle.storage.specs.Storage.{tokensOf};
 use super::Tokens;
-use bounded::number::SiteNumber;
+use bounded::site::SiteNumber;
 use bounded::text::Text;
 
 impl Tokens {
