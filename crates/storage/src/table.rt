@@ -1,10 +1,10 @@
 ghost use mathlib.Core.Path.{_≡_};
 ghost use mathlib.Core.Bool.{true};
+ghost use mathlib.Core.List.{map};
 ghost use Prim.Native.Nat.{_≤_};
 ghost use lib.ListN.{length, take};
-ghost use Rattle.std.specs.shelf.Lists.{All};
-ghost use Rattle.addresses.specs.Address.{siteOk};
 ghost use Rattle.bounded.specs.Texts.{textOf};
+ghost use Rattle.storage.specs.Rows.{allSites};
 use bounded::text::Text;
 
 mod access;
@@ -23,5 +23,5 @@ pub struct Table {
     rows: [Row; 16],
     ghost few: { len ≤ 16 },
     ghost all: { length rows ≡ 16 },
-    ghost sites: { All (λ r. siteOk (textOf (r .host)) (r .port) ≡ true) (take len rows) },
+    ghost sites: { allSites (map (λ r. (textOf (r .host), r .port)) (take len rows)) ≡ true },
 }
