@@ -33,12 +33,12 @@ module _ (lens xs ys x zs : List ℕ) (s n k : ℕ) (named : s ≡ n) (few : s <
   store-at : (t : ℕ) → storeIn (set lens s (length x)) (putMid (s * 4096) k xs ys) t ≡ at n x (storeIn lens xs) t
   store-at t = ⊎-elim
       (λ (e : t ≡ s). rw e (ap (λ m. take m (drop (s * 4096) (putMid (s * 4096) k xs ys))) (getD-set-same lens s (length x) 0 (omega arith))
-          ∙ read-same (s * 4096) k (length x) xs ys x zs (omega arith) is refl ∙ sym (cond-true _ _ _ (eq-eqb s n named))))
+      ∙ read-same (s * 4096) k (length x) xs ys x zs (omega arith) is refl ∙ sym (cond-true _ _ _ (eq-eqb s n named))))
       (⊎-elim
       (λ (lt : t < s). let sh = short t in ap (λ m. take m (drop (t * 4096) (putMid (s * 4096) k xs ys))) (getD-set-other lens s t (length x) 0 (omega arith))
-          ∙ read-below (s * 4096) k (t * 4096) (getD lens t 0) xs ys (omega arith) (omega arith) ∙ sym (cond-false _ _ _ (ne-eqb t n (omega arith))))
+      ∙ read-below (s * 4096) k (t * 4096) (getD lens t 0) xs ys (omega arith) (omega arith) ∙ sym (cond-false _ _ _ (ne-eqb t n (omega arith))))
       (λ (gt : s < t). ap (λ m. take m (drop (t * 4096) (putMid (s * 4096) k xs ys))) (getD-set-other lens s t (length x) 0 (omega arith))
-          ∙ ap (take (getD lens t 0)) (drop-putMid (s * 4096) k xs ys (t * 4096) (omega arith) (omega arith) (omega arith)) ∙ sym (cond-false _ _ _ (ne-eqb t n (omega arith)))))
+      ∙ ap (take (getD lens t 0)) (drop-putMid (s * 4096) k xs ys (t * 4096) (omega arith) (omega arith) (omega arith)) ∙ sym (cond-false _ _ _ (ne-eqb t n (omega arith)))))
       (cases-order t s)
 
 length-putMid : (a k : ℕ) (xs ys : List ℕ) → a + k ≤ length xs → length ys ≡ k → length (putMid a k xs ys) ≡ length xs

@@ -30,7 +30,10 @@ impl Stores {
         ensures { λ r. ⌜ made r (λ s. storesOf s ≡ (λ _. [])) ⌝ }
     {
         let bytes = vec![in heap; 0; 65536]?;
-        Ok(Stores { lens: [0; 16], bytes })
+        Ok(Stores {
+            lens: [0; 16],
+            bytes,
+        })
     }
 
     // The site keeps these bytes and no others; more than 4,096 are refused.

@@ -10,6 +10,7 @@ ghost-self c = (search needs, (short-set _ _ _ (c .args .self .now .short) (omeg
 
 pub returns : need.returns
 returns c = record {
-    answer = sym (le-leb _ _ (omega arith));
-    after = kept (c .args .self .now .bytes) (c .args .self .now .lens) _ _ (c .args .bytes .now) _ _ _ _ (c .number-place .ensures .is) (c .deref-mut .ensures .value) (c .put .ensures) (c .args .self .now .short)
-        (omega arith) (omega arith) (omega arith) (omega arith) (search needs) }
+  answer = sym (le-leb _ _ (omega arith));
+  after = kept (c .args .self .now .bytes) (c .args .self .now .lens) _ _ (c .args .bytes .now) _ _ _ _ (c .number-place .ensures .is) (c .deref-mut .ensures .value) (c .put .ensures) (c .args .self .now .short)
+      (omega arith) (omega arith) (omega arith) (omega arith) (search needs);
+}

@@ -32,4 +32,5 @@ returns c =
     let free : t .len < 16 = room (tableOf t) (c .args .site .host .now) _ (c .args .site .port) _ _ count ok (c .in-Some-new .ensures tt) (c .in-Some .ensures tt) in
     record {
       answer = numbered-is (tableOf t) (c .args .site .host .now) _ (c .args .site .port) _ _ count ok (c .in-Some-new .ensures tt) (c .in-Some .ensures tt);
-      after = push-row rowOf (t .rows) (t .len) fits _ (omega arith) ∙ added-is (tableOf t) (c .args .site .host .now) _ (c .args .site .port) _ _ count ok (c .in-Some-new .ensures tt) (c .in-Some .ensures tt) }
+      after = push-row rowOf (t .rows) (t .len) fits _ (omega arith) ∙ added-is (tableOf t) (c .args .site .host .now) _ (c .args .site .port) _ _ count ok (c .in-Some-new .ensures tt) (c .in-Some .ensures tt);
+    }

@@ -9,8 +9,9 @@ use Rattle.storage.proofs.table.Table.site.Needs as need
 
 pub returns-then-place-self : need.returns-then-place-self
 returns-then-place-self c = record {
-    is = sym (row-past rowOf (c .args .self .now .rows) (c .args .self .now .len) (omega arith) _ (omega arith));
-    ok = tt }
+  is = sym (row-past rowOf (c .args .self .now .rows) (c .args .self .now .len) (omega arith) _ (omega arith));
+  ok = tt;
+}
 
 found : (c : need.After-as-slice) →
     Some (c .as-slice .result .now, (getD (c .args .self .now .rows) (c .number-place .result) (c .index-self-place .result)) .port) ≡ nth (c .args .number .number) (tableOf (c .args .self .now))
