@@ -1,0 +1,4 @@
+pub mod Updates
+pub mod Blocks
+pub mod Rows
+pub mod Adding
