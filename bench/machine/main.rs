@@ -103,7 +103,7 @@ fn main() {
         ("memory walk", walk(), 20_000, &[]),
         ("short turns, told 1,024 bytes", turns(), 4_000_000, &told),
     ];
-    let rounds: u32 = std::env::args().nth(1).and_then(|n| n.parse().ok()).unwrap_or(5);
+    let rounds: u32 = std::env::args().nth(1).and_then(|n| n.parse().ok()).unwrap_or(9);
     let mut slow = false;
     println!("{:<32} {:>12} {:>14} {:>14} {:>7}", "", "steps", "proved /s", "plain Rust /s", "ratio");
     for (name, page, turns, told) in &programs {

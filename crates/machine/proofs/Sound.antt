@@ -24,7 +24,7 @@ use Rattle.machine.specs.declared.Outcome.the-variants.{Did, Refused}
 use Rattle.machine.specs.declared.Flow.{Flow}
 use Rattle.machine.specs.declared.Flow.the-variants.{On, Waits, Faults}
 use Rattle.machine.specs.Limits.{allowed, Inside, Within}
-use Rattle.machine.specs.Step.{After, after, Moved, moved, beside, register, numberAt, pairAt, spanAt, needs, actAt, waits, bit, assign, goto, assigns, jumps, combines, copies, jumpsIf, loads, stores, effect, stepOf}
+use Rattle.machine.specs.Step.{After, after, Moved, moved, beside, register, numberAt, pairAt, spanAt, andThen, actAt, waits, bit, assign, goto, assigns, jumps, combines, copies, jumpsIf, loads, stores, effect, stepOf}
 use Rattle.machine.specs.Turn.{become, whileOn, runs, turned, endOf}
 use Rattle.machine.specs.Acts.{Named}
 
@@ -40,7 +40,7 @@ span-inside m size a span e =
     inside-if (ltb a 31 && fits) _ span size (λ t. leb-true _ _ (and-parts (ltb a 31) fits t .1)) e
 
 -- the part that an act needs is there
-needed : {X : Type 0} (o : Option X) (f : X → Option Act) (a : Act) → needs o f ≡ Some a → (x : X) × ((o ≡ Some x) × (f x ≡ Some a))
+needed : {X : Type 0} (o : Option X) (f : X → Option Act) (a : Act) → andThen o f ≡ Some a → (x : X) × ((o ≡ Some x) × (f x ≡ Some a))
 needed None f a e = let z : _≡_ {A = ℕ} 0 1 = cc in absurd (omega arith)
 needed (Some x) f a e = (x, (refl, e))
 

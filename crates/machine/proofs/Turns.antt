@@ -1,8 +1,10 @@
 -- Turns that are cut and go on, and turns after the end.
 use mathlib.Core.Path.{_≡_, refl, sym, ap, _∙_}
 use mathlib.Core.Bool.{Bool, true, false, cond}
-use mathlib.Core.List.{List}
-use Prim.Native.Nat.{ℕ, zero, suc, _+_}
+use mathlib.Core.List.{List, [], _∷_, _++_}
+use Prim.Native.Nat.{ℕ, zero, suc, _+_, _≤_}
+use lib.ListN.{length, set, take, drop}
+use Rattle.std.proofs.shelf.Lists.{length-take-le, take-at, drop-at}
 use native.Mathlib.Nat.{zero-add, suc-add}
 use native.Mathlib.Omega.{arith}
 use Rattle.scripts.specs.declared.Step.{Step}
@@ -17,8 +19,8 @@ use Rattle.machine.specs.declared.Outcome.{Outcome}
 use Rattle.machine.specs.declared.Outcome.the-variants.{Did, Refused, Paused, Faulted, Idle}
 use Rattle.machine.specs.Limits.{allowed}
 use Rattle.machine.specs.Step.{After, after, stepOf}
-use Rattle.machine.specs.Turn.{whileOn, runs, hears, placed, bytesOf, become, Turned, turned, endBy, endOf, turnBy, turnIn, turnOf, faultNumber}
-use Rattle.machine.specs.Laws.{Resumes, Ends}
+use Rattle.machine.specs.Turn.{whileOn, runs, hears, room, placed, bytesOf, become, Turned, turned, endBy, endOf, turnBy, turnIn, turnOf, faultNumber}
+use Rattle.machine.specs.Laws.{Tells, Resumes, Ends}
 use Rattle.machine.proofs.Sound.{runs-sound}
 
 -- k steps more, where a run goes on
@@ -84,3 +86,16 @@ ends sites script told later bs cs m s e =
     ap
     (λ st. turnBy st 10000 sites script later cs (turnOf sites script told bs m s .machine) (turnOf sites script told bs m s .memory))
     (ends-by (m .status) 10000 sites script told bs m s e)
+
+first-four : (rs : List ℕ) (a b c d : ℕ) → 4 ≤ length rs → set (set (set (set rs 0 a) 1 b) 2 c) 3 d ≡ a ∷ b ∷ c ∷ d ∷ drop 4 rs
+first-four [] a b c d h = absurd (omega arith)
+first-four (w ∷ []) a b c d h = absurd (omega arith)
+first-four (w ∷ x ∷ []) a b c d h = absurd (omega arith)
+first-four (w ∷ x ∷ y ∷ []) a b c d h = absurd (omega arith)
+first-four (w ∷ x ∷ y ∷ z ∷ rs) a b c d h = refl
+
+pub tells : Tells
+tells told bs m s full =
+    let n = room bs s in
+    let front : length (take n bs) ≡ n = length-take-le n bs (omega arith) in
+    (first-four (m .registers) _ _ _ _ (omega arith), take-at (take n bs) (drop n s) n front, drop-at (take n bs) (drop n s) n front)

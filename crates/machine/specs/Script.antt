@@ -18,6 +18,7 @@ pub record State : Type 0 where
   pub memory : List ℕ
   pub script : List Step
 
+-- one such, from its parts
 abbrev pub state : Machine → List ℕ → List Step → State
 state m s script = record { machine = m; memory = s; script = script }
 

@@ -23,6 +23,7 @@ pub record After : Type 0 where
   pub machine : Machine
   pub memory : List ℕ
 
+-- one such, from its parts
 abbrev pub after : Flow → Machine → List ℕ → After
 after flow m s = record { flow = flow; machine = m; memory = s }
 
@@ -44,20 +45,21 @@ spanAt m size a =
     cond (ltb a 31 && leb (register m a + register m (a + 1)) size)
     (Some (record { from = register m a; len = register m (a + 1) })) None
 
-abbrev pub needs : {X : Type 0} → Option X → (X → Option Act) → Option Act
-needs None f = None
-needs (Some x) f = f x
+-- what comes next, where there is something to go on with
+abbrev pub andThen : {X : Type 0} → Option X → (X → Option Act) → Option Act
+andThen None f = None
+andThen (Some x) f = f x
 
 -- the act that a wait names, by the registers and the size of the memory
 abbrev pub actAt : Call → Machine → ℕ → Option Act
 actAt call.Nothing m size = Some act.Nothing
 actAt (call.Ask site path body) m size =
-    needs (numberAt m site) (λ n. needs (spanAt m size path) (λ p. needs (spanAt m size body) (λ b. Some (act.Ask n p b))))
+    andThen (numberAt m site) (λ n. andThen (spanAt m size path) (λ p. andThen (spanAt m size body) (λ b. Some (act.Ask n p b))))
 actAt (call.Say window site bytes) m size =
-    needs (numberAt m window) (λ w. needs (numberAt m site) (λ n. needs (spanAt m size bytes) (λ b. Some (act.Say w n b))))
-actAt (call.Keep bytes) m size = needs (spanAt m size bytes) (λ b. Some (act.Keep b))
+    andThen (numberAt m window) (λ w. andThen (numberAt m site) (λ n. andThen (spanAt m size bytes) (λ b. Some (act.Say w n b))))
+actAt (call.Keep bytes) m size = andThen (spanAt m size bytes) (λ b. Some (act.Keep b))
 actAt call.Look m size = Some act.Look
-actAt (call.Open site path) m size = needs (numberAt m site) (λ n. needs (spanAt m size path) (λ p. Some (act.Open n p)))
+actAt (call.Open site path) m size = andThen (numberAt m site) (λ n. andThen (spanAt m size path) (λ p. Some (act.Open n p)))
 
 -- a wait for an act that could be named
 abbrev pub waits : Option Act → Flow
@@ -76,14 +78,16 @@ assign a x m = record { registers = set (m .registers) a x; next = m .next; stat
 abbrev pub goto : ℕ → Machine → Machine
 goto n m = record { registers = m .registers; next = n; status = m .status }
 
--- a step that leaves the memory alone
+-- what a step leaves that has nothing to do with the memory
 pub record Moved : Type 0 where
   pub flow : Flow
   pub machine : Machine
 
+-- one such, from its parts
 abbrev pub moved : Flow → Machine → Moved
 moved flow m = record { flow = flow; machine = m }
 
+-- with the memory as it was
 abbrev pub beside : Moved → List ℕ → After
 beside x s = after (x .flow) (x .machine) s
 

@@ -29,6 +29,7 @@ faultNumber Idle = 0
 abbrev pub fresh : Machine
 fresh = record { registers = replicate 32 0; next = 0; status = Waiting }
 
+-- a machine with another status
 abbrev pub become : Status → Machine → Machine
 become status m = record { registers = m .registers; next = m .next; status = status }
 
@@ -107,6 +108,7 @@ pub record Turned : Type 0 where
   pub machine : Machine
   pub memory : List ℕ
 
+-- one such, from its parts
 abbrev pub turned : Outcome → Machine → List ℕ → Turned
 turned outcome m s = record { outcome = outcome; machine = m; memory = s }
 
@@ -116,16 +118,18 @@ endBy On sites m s = turned Paused m s
 endBy (Waits act) sites m s = turned (cond (allowed act sites s) (Did act) Refused) (become Waiting m) s
 endBy Faults sites m s = turned Faulted (become Ended m) s
 
+-- what comes of a run
 abbrev pub endOf : ℕ → After → Turned
 endOf sites x = endBy (x .flow) sites (x .machine) (x .memory)
 
--- a turn of at most k steps: one that has ended does nothing, one that runs is told nothing
+-- a turn of at most k steps, by the status: one that has ended does nothing, one that runs is told nothing
 abbrev pub turnBy : Status → ℕ → ℕ → List Step → Told → List ℕ → Machine → List ℕ → Turned
 turnBy Ended k sites script told bs m s = turned Idle m s
 turnBy Running k sites script told bs m s = endOf sites (runs script k m s)
 turnBy Waiting k sites script told bs m s =
     endOf sites (runs script k (hears told bs m s) (placed (bytesOf told bs) s))
 
+-- a turn of at most k steps
 abbrev pub turnIn : ℕ → ℕ → List Step → Told → List ℕ → Machine → List ℕ → Turned
 turnIn k sites script told bs m s = turnBy (m .status) k sites script told bs m s
 

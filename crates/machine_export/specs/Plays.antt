@@ -26,9 +26,11 @@ pub record Played : Type 0 where
   pub machine : Machine
   pub memory : List ℕ
 
+-- one such, from its parts
 abbrev pub played : ℕ → Machine → List ℕ → Played
 played done m s = record { done = done; machine = m; memory = s }
 
+-- a turn more is counted
 abbrev pub counted : ℕ → Turned → Played
 counted done x = played (done + counts (x .outcome)) (x .machine) (x .memory)
 

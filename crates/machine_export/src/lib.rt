@@ -21,13 +21,7 @@ fn count(outcome: Outcome) -> u32
 }
 
 // So many turns, each told the same; says in how many something was done.
-fn play(
-    machine: &mut Machine,
-    script: &[Step],
-    turns: u32,
-    bytes: &[u8],
-    memory: &mut [u8],
-) -> u32
+fn play(machine: &mut Machine, script: &[Step], turns: u32, bytes: &[u8], memory: &mut [u8]) -> u32
     ensures { λ r. ⌜ played r (now (machine .exit)) (now (memory .exit)) ≡ plays turns (now (script .entry)) (now (bytes .entry)) (played 0 (now (machine .entry)) (now (memory .entry))) ⌝ }
 {
     let mut done = 0;

@@ -11,18 +11,23 @@ mod script;
 pub use same::SameStep;
 pub use script::Script;
 
-// One step of a script. Registers are named by a byte, steps by their place in the script.
+// One step of a script. A byte names a register; the first one gets the result.
 #[derive(Clone, Copy)]
 pub enum Step {
     Constant(u8, u32),
     Move(u8, u8),
+    // modulo 2^32
     Sum(u8, u8, u8),
     Product(u8, u8, u8),
+    // 1 or 0
     Equal(u8, u8, u8),
     Less(u8, u8, u8),
+    // to a step, by its place in the script; JumpIf if the register is not zero
     Jump(u32),
     JumpIf(u8, u32),
+    // the byte at the place that the second register holds
     Load(u8, u8),
+    // to the place that the first register holds, the low byte of the second
     Store(u8, u8),
     Wait(Call),
 }
