@@ -3,3 +3,4 @@ pub mod Heads
 pub mod Tables
 pub mod Settings
 pub mod Views
+pub mod Written
