@@ -15,7 +15,7 @@ use Rattle.std.proofs.shelf.Lists.{at-drop-more, at-drop-all, take-append-drop}
 use Rattle.std.proofs.shelf.Parts.{take-putMid, drop-putMid}
 use Rattle.std.proofs.shelf.Tests.{cond-true, cond-false, le-leb, lt-leb, leb-true}
 use Rattle.std.proofs.shelf.Ways.{tells}
-use Rattle.bytes.specs.Buffers.{roomAfter}
+use Rattle.bytes.specs.Buffers.{roomAfter, over, written, count, writtenFrom, countFrom}
 use Rattle.bytes.proofs.Options.{cond-some}
 
 abbrev pub Pieces : Type 0
@@ -42,10 +42,7 @@ room-nothing room = cond-true _ _ _ (le-leb 0 room (omega arith)) ∙ ap Some (s
 pub room-fits : (t : List ℕ) (n k : ℕ) → Some k ≡ roomAfter t n → length t ≤ n
 room-fits t n k e = leb-true (length t) n (cond-some (leb (length t) n) (Some (n - length t)) k (sym e) .0)
 
--- what a buffer holds once a text is written to it from a place on
-abbrev pub over : ℕ → List ℕ → List ℕ → List ℕ
-over at xs t = take at xs ++ (t ++ drop (at + length t) xs)
-
+-- one piece after another
 pub over-more : (a : ℕ) (xs p t : List ℕ) → a + length p ≤ length xs → over (a + length p) (putMid a (length p) xs p) t ≡ over a xs (p ++ t)
 over-more a xs p t h =
     let front : take (a + length p) (putMid a (length p) xs p) ≡ take a xs ++ p = take-putMid a (length p) xs p (a + length p) refl (omega arith) in
@@ -56,8 +53,12 @@ over-more a xs p t h =
 pub over-none : (a : ℕ) (xs : List ℕ) → over a xs [] ≡ xs
 over-none a xs = ap (λ n. take a xs ++ drop n xs) (add-zero a) ∙ take-append-drop a xs
 
-pub over-start : (xs t : List ℕ) → over 0 xs t ≡ t ++ drop (length t) xs
-over-start xs t = ap (λ n. t ++ drop n xs) (zero-add (length t))
+-- from the front on
+pub written-start : (t out : List ℕ) → writtenFrom 0 t out ≡ written t out
+written-start t out = λ i. cond (leb (zero-add (length t) i) (length out)) (t ++ drop (zero-add (length t) i) out) out
+
+pub count-start : (t out : List ℕ) → countFrom 0 t out ≡ count t out
+count-start t out = λ i. cond (leb (zero-add (length t) i) (length out)) (Some (zero-add (length t) i)) None
 
 -- what the checker reads past the end of the pieces
 abbrev pub nil : RefT (List ℕ)
