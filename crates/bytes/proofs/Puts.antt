@@ -11,7 +11,7 @@ use lib.Dec.{leb}
 use lib.ListN.{length, take, drop, getD, length-append}
 use Rattle.std.specs.declared.option.Option.the-variants.{Some, None}
 use Rattle.std.specs.Joined.{joined}
-use Rattle.std.proofs.shelf.Lists.{at-drop-more, at-drop-all, take-append-drop}
+use Rattle.std.proofs.shelf.Lists.{at-drop-more, at-drop-all, take-append-drop, drop-drop}
 use Rattle.std.proofs.shelf.Parts.{take-putMid, drop-putMid}
 use Rattle.std.proofs.shelf.Tests.{cond-true, cond-false, le-leb, lt-leb, leb-true}
 use Rattle.std.proofs.shelf.Ways.{tells}
@@ -49,6 +49,10 @@ over-more a xs p t h =
     let back : drop (a + length p + length t) (putMid a (length p) xs p) ≡ drop (a + length p + length t) xs = drop-putMid a (length p) xs p (a + length p + length t) (omega arith) (omega arith) refl in
     let place : a + length p + length t ≡ a + length (p ++ t) = omega (arith, length-append p t) in
     (λ i. front i ++ (t ++ back i)) ∙ append-assoc (take a xs) p (t ++ drop (a + length p + length t) xs) ∙ ap (λ l. take a xs ++ l) (sym (append-assoc p t (drop (a + length p + length t) xs))) ∙ ap (λ n. take a xs ++ ((p ++ t) ++ drop n xs)) place
+
+-- one text after another
+pub over-over : (a : ℕ) (xs p t : List ℕ) → a + length p ≤ length xs → over (a + length p) (over a xs p) t ≡ over a xs (p ++ t)
+over-over a xs p t h = ap (λ l. over (a + length p) (take a xs ++ (p ++ l)) t) (sym (drop-drop (length p) a xs)) ∙ over-more a xs p t h
 
 pub over-none : (a : ℕ) (xs : List ℕ) → over a xs [] ≡ xs
 over-none a xs = ap (λ n. take a xs ++ drop n xs) (add-zero a) ∙ take-append-drop a xs

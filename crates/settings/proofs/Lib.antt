@@ -2,3 +2,4 @@ pub mod Places
 pub mod Cuts
 pub mod Turning
 pub mod Naming
+pub mod Unwriting

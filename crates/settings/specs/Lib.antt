@@ -4,3 +4,4 @@ pub mod Tables
 pub mod Settings
 pub mod Views
 pub mod Written
+pub mod Unwritten

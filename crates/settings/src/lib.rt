@@ -23,7 +23,7 @@ use addresses::same_site;
 
 pub mod lines;
 pub mod table;
-mod write;
+pub mod write;
 
 // A window to open: the number of its site, and the path of its page.
 #[derive(Clone, Copy)]
