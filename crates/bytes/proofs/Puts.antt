@@ -1,6 +1,6 @@
 -- Pieces written one after another. Assumes nothing.
 use mathlib.Core.Path.{_≡_, refl, sym, ap, _∙_}
-use mathlib.Core.Bool.{cond}
+use mathlib.Core.Bool.{true, cond}
 use mathlib.Core.List.{List, [], _∷_, _++_, append-assoc}
 use Prim.Native.Nat.{ℕ, _+_, _-_, _<_, _≤_}
 use native.Mathlib.Nat.{add-zero, zero-add, sub-zero}
@@ -60,6 +60,10 @@ over-none a xs = ap (λ n. take a xs ++ drop n xs) (add-zero a) ∙ take-append-
 -- from the front on
 pub written-start : (t out : List ℕ) → writtenFrom 0 t out ≡ written t out
 written-start t out = λ i. cond (leb (zero-add (length t) i) (length out)) (t ++ drop (zero-add (length t) i) out) out
+
+-- what fits is written
+pub over-written : (t out : List ℕ) → leb (length t) (length out) ≡ true → over 0 out t ≡ written t out
+over-written t out fits = ap (λ n. t ++ drop n out) (zero-add (length t)) ∙ sym (cond-true _ _ _ fits)
 
 pub count-start : (t out : List ℕ) → countFrom 0 t out ≡ count t out
 count-start t out = λ i. cond (leb (zero-add (length t) i) (length out)) (Some (zero-add (length t) i)) None

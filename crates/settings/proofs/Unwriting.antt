@@ -1,17 +1,21 @@
 -- What is left to write, line by line. Assumes nothing.
 use mathlib.Core.Path.{_≡_, refl, sym, ap, _∙_}
+use mathlib.Core.Logic.{⊎-elim}
 use mathlib.Core.List.{List, [], _∷_, _++_, map, append-assoc}
-use Prim.Native.Nat.{ℕ, zero, suc, _+_, _<_, _≤_}
+use Prim.Native.Nat.{ℕ, zero, suc, _+_, _-_, _<_, _≤_}
 use native.Mathlib.Numerals.{add-one}
 use native.Mathlib.Omega.{arith}
-use lib.Chars.{codes}
+use lib.Dec.{leb}
 use lib.ListN.{length, drop, length-append}
 use Rattle.std.specs.declared.option.Option.{Option}
 use Rattle.std.specs.declared.option.Option.the-variants.{Some, None}
 use Rattle.std.specs.Options.{mapped}
 use Rattle.std.specs.shelf.Maps.{nth}
 use Rattle.std.proofs.shelf.Lists.{drop-all, length-map}
-use Rattle.bytes.proofs.Options.{none-some}
+use Rattle.std.proofs.shelf.Tests.{cond-true, cases-bool, leb-true, leb-false, le-leb}
+use Rattle.bytes.specs.Buffers.{roomAfter, over, writtenFrom, countFrom}
+use Rattle.bytes.proofs.Options.{none-some, some-same, cond-some}
+use Rattle.bytes.proofs.Puts.{room-more, room-none, over-over}
 use Rattle.settings.specs.declared.lines.TurnLine.{TurnLine}
 use Rattle.settings.specs.Written.{siteLine, openText, openLine, turnText, ended}
 use Rattle.settings.specs.Unwritten.{leftFrom}
@@ -44,8 +48,8 @@ pub left-turns : {X Y : Type 0} (f : X → List ℕ × ℕ) (g : Y → ℕ × Li
 left-turns f g xs os ts i j no-site no-open =
     (λ k. map siteLine (no-sites f xs i no-site k) ++ (map (openLine (map f xs)) (windows k) ++ map turnText ts))
   where
-  windows : drop j (map g os) ≡ []
-  windows = drop-all j (map g os) (omega (arith, nth-none os j no-open, length-map os g))
+    windows : drop j (map g os) ≡ []
+    windows = drop-all j (map g os) (omega (arith, nth-none os j no-open, length-map os g))
 
 -- a list by its first element and the others
 pub first-and : {X : Type 0} (xs ys : List X) (x : X) → Some x ≡ nth xs 0 → ys ≡ drop 1 xs → xs ≡ x ∷ ys
@@ -56,9 +60,44 @@ pub none-left : {X : Type 0} (xs : List X) → None ≡ nth xs 0 → xs ≡ []
 none-left [] e = refl
 none-left (z ∷ xs) e = absurd (none-some z e)
 
--- a line and its newline
-pub with-newline : (w h n e : List ℕ) → w ++ (h ++ (n ++ (e ++ (10 ∷ [])))) ≡ (w ++ (h ++ (n ++ e))) ++ (10 ∷ [])
-with-newline w h n e = sym (simp append-assoc)
+-- a line in its parts, and its newline
+pub with-newline : (w h n m e : List ℕ) → n ≡ m → w ++ (h ++ (n ++ (e ++ (10 ∷ [])))) ≡ (w ++ (h ++ (m ++ e))) ++ (10 ∷ [])
+with-newline w h n m e q = ap (λ t. w ++ (h ++ (t ++ (e ++ (10 ∷ []))))) q ∙ sym (simp append-assoc)
 
 pub ended-more : (l : List ℕ) (ls : List (List ℕ)) → ended (l ∷ ls) ≡ (l ++ (10 ∷ [])) ++ ended ls
 ended-more l ls = sym (append-assoc l (10 ∷ []) (ended ls))
+
+-- ls are the lines that are left, of which x is the first and ms are the others; p is x with its newline
+module _ (ls ms : List (List ℕ)) (x p : List ℕ) (first : Some x ≡ nth ls 0) (others : ms ≡ drop 1 ls) (same : p ≡ x ++ (10 ∷ [])) where
+  text : ended ls ≡ p ++ ended ms
+  text = ap ended (first-and ls ms x first others) ∙ ended-more x ms ∙ ap (λ q. q ++ ended ms) (sym same)
+
+  long : length (ended ls) ≡ length p + length (ended ms)
+  long = ap length text ∙ length-append p (ended ms)
+
+  pub one-less : length ms < length ls
+  one-less = omega (arith, ap length (first-and ls ms x first others))
+
+  pub room-line : (room rest : ℕ) → Some rest ≡ roomAfter p room → roomAfter (ended ls) room ≡ roomAfter (ended ms) rest
+  room-line room rest e =
+      let h = cond-some (leb (length p) room) (Some (room - length p)) rest (sym e) in
+      ap (λ t. roomAfter t room) text ∙ room-more p (ended ms) room (leb-true (length p) room (h .0)) ∙ ap (roomAfter (ended ms)) (some-same (room - length p) rest (h .1))
+
+  pub no-room : (room : ℕ) → None ≡ roomAfter p room → None ≡ roomAfter (ended ls) room
+  no-room room e =
+      ⊎-elim
+      (λ y. absurd (none-some (room - length p) (e ∙ cond-true (leb (length p) room) (Some (room - length p)) None y)))
+      (λ n. sym (ap (λ t. roomAfter t room) text ∙ room-none p (ended ms) room (leb-false (length p) room n)))
+      (cases-bool (leb (length p) room))
+
+  pub put-line : (at next : ℕ) (out new : List ℕ) → Some next ≡ countFrom at p out → new ≡ writtenFrom at p out → (over at out (ended ls) ≡ over next new (ended ms)) × (next + length (ended ms) ≡ at + length (ended ls))
+  put-line at next out new e q =
+      let h = cond-some (leb (at + length p) (length out)) (Some (at + length p)) next (sym e) in
+      let place : at + length p ≡ next = some-same (at + length p) next (h .1) in
+      let now : new ≡ over at out p = q ∙ cond-true _ _ _ (h .0) in (
+        ap (over at out) text ∙ sym (over-over at out p (ended ms) (leb-true (at + length p) (length out) (h .0))) ∙ (λ i. over (place i) (sym now i) (ended ms)),
+        omega (arith, long),
+      )
+
+  pub put-fits : (at : ℕ) (out : List ℕ) → at + length (ended ls) ≤ length out → None ≡ countFrom at p out → ⊥
+  put-fits at out h e = none-some (at + length p) (e ∙ cond-true (leb (at + length p) (length out)) (Some (at + length p)) None (le-leb (at + length p) (length out) (omega (arith, long))))

@@ -54,8 +54,18 @@ fn turn_text(turn: TurnLine) -> LineText<'static>
     ensures { λ r. ⌜ lineOf r ≡ turnText turn ⌝ }
 {
     match turn {
-        TurnLine::Window(n) => LineText { word: b"turn ", host: b"", number: Number::Count(n), end: b"" },
-        TurnLine::Rounds(n) => LineText { word: b"", host: b"", number: Number::Count(n), end: b" times all" },
+        TurnLine::Window(n) => LineText {
+            word: b"turn ",
+            host: b"",
+            number: Number::Count(n),
+            end: b"",
+        },
+        TurnLine::Rounds(n) => LineText {
+            word: b"",
+            host: b"",
+            number: Number::Count(n),
+            end: b" times all",
+        },
     }
 }
 
@@ -67,14 +77,29 @@ impl<'a> Unwritten<'a> {
     {
         if let Some(site) = self.settings.sites.get(self.sites) {
             self.sites += 1;
-            return Some(LineText { word: b"site https://", host: site.host, number: Number::Port(site.port), end: b"/" });
+            return Some(LineText {
+                word: b"site https://",
+                host: site.host,
+                number: Number::Port(site.port),
+                end: b"/",
+            });
         }
         if let Some(open) = self.settings.opens.get(self.opens) {
             self.opens += 1;
             let Some(site) = self.settings.sites.get(open.site) else {
-                return Some(LineText { word: b"", host: b"", number: Number::Port(443), end: b"" });
+                return Some(LineText {
+                    word: b"",
+                    host: b"",
+                    number: Number::Port(443),
+                    end: b"",
+                });
             };
-            return Some(LineText { word: b"open https://", host: site.host, number: Number::Port(site.port), end: open.path });
+            return Some(LineText {
+                word: b"open https://",
+                host: site.host,
+                number: Number::Port(site.port),
+                end: open.path,
+            });
         }
         let Some(turn) = self.settings.turns.next() else {
             return None;
@@ -84,7 +109,12 @@ impl<'a> Unwritten<'a> {
 }
 
 // The room that is left after a line and its newline.
-fn room_after_line<'a>(l: LineText<'a>, number: &'a [u8], newline: &'a [u8], room: usize) -> Option<usize>
+fn room_after_line<'a>(
+    l: LineText<'a>,
+    number: &'a [u8],
+    newline: &'a [u8],
+    room: usize,
+) -> Option<usize>
     ensures { λ r. ⌜ r ≡ roomAfter (now (l .entry .word) ++ (now (l .entry .host) ++ (now (number .entry) ++ (now (l .entry .end) ++ now (newline .entry))))) room ⌝ }
 {
     room_after(&[l.word, l.host, number, l.end, newline], room)
@@ -93,7 +123,11 @@ fn room_after_line<'a>(l: LineText<'a>, number: &'a [u8], newline: &'a [u8], roo
 fn room_for(settings: Settings<'_>, n: usize) -> Option<usize>
     ensures { λ r. ⌜ r ≡ roomAfter (settingsText (settingsOf (settings .entry))) n ⌝ }
 {
-    let mut left = Unwritten { settings, sites: 0, opens: 0 };
+    let mut left = Unwritten {
+        settings,
+        sites: 0,
+        opens: 0,
+    };
     let mut room = n;
     while let Some(line) = left.next() {
         let number = number_text(line.number);
@@ -105,7 +139,13 @@ fn room_for(settings: Settings<'_>, n: usize) -> Option<usize>
     Some(room)
 }
 
-fn put_line<'a>(out: &mut [u8], at: usize, l: LineText<'a>, number: &'a [u8], newline: &'a [u8]) -> Option<usize>
+fn put_line<'a>(
+    out: &mut [u8],
+    at: usize,
+    l: LineText<'a>,
+    number: &'a [u8],
+    newline: &'a [u8],
+) -> Option<usize>
     ensures answer { λ r. ⌜ r ≡ countFrom at (now (l .entry .word) ++ (now (l .entry .host) ++ (now (number .entry) ++ (now (l .entry .end) ++ now (newline .entry))))) (now (out .entry)) ⌝ }
     ensures after { λ _. ⌜ now (out .exit) ≡ writtenFrom at (now (l .entry .word) ++ (now (l .entry .host) ++ (now (number .entry) ++ (now (l .entry .end) ++ now (newline .entry))))) (now (out .entry)) ⌝ }
 {
@@ -117,7 +157,11 @@ fn put_lines(out: &mut [u8], settings: Settings<'_>) -> Option<usize>
     ensures answer { λ r. ⌜ r ≡ Some (length (settingsText (settingsOf (settings .entry)))) ⌝ }
     ensures after { λ _. ⌜ now (out .exit) ≡ over 0 (now (out .entry)) (settingsText (settingsOf (settings .entry))) ⌝ }
 {
-    let mut left = Unwritten { settings, sites: 0, opens: 0 };
+    let mut left = Unwritten {
+        settings,
+        sites: 0,
+        opens: 0,
+    };
     let mut at = 0;
     while let Some(line) = left.next() {
         let number = number_text(line.number);

@@ -24,10 +24,11 @@ loop-p-again c =
     let t = textOf (drop (c .loop-p .p-index + 1) (c .args .pieces .now)) in
     let long = text-long _ _ (c .loop-p-test .taken) in
     let k : length p ≡ c .loop-p .at + length p - c .loop-p .at = omega arith in
-    let h : c .loop-p .at + length p ≤ length (c .loop-p .out) = omega (arith, i .1, i .2, long) in
-    (i .0 ∙ ap (over (c .loop-p .at) (c .loop-p .out)) (text-more _ _ (c .loop-p-test .taken)) ∙ sym (over-more (c .loop-p .at) (c .loop-p .out) p t h) ∙ (λ j. over (c .loop-p .at + length p) (putMid (c .loop-p .at) (k j) (c .loop-p .out) (sym (c .copy-from-slice .ensures .after) j)) t),
-     omega (arith, i .1, long),
-     i .2)
+    let h : c .loop-p .at + length p ≤ length (c .loop-p .out) = omega (arith, i .1, i .2, long) in (
+      i .0 ∙ ap (over (c .loop-p .at) (c .loop-p .out)) (text-more _ _ (c .loop-p-test .taken)) ∙ sym (over-more (c .loop-p .at) (c .loop-p .out) p t h) ∙ (λ j. over (c .loop-p .at + length p) (putMid (c .loop-p .at) (k j) (c .loop-p .out) (sym (c .copy-from-slice .ensures .after) j)) t),
+      omega (arith, i .1, long),
+      i .2,
+    )
 
 pub returns : need.returns
 returns c =
