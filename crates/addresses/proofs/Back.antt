@@ -54,7 +54,7 @@ dot-names k s (Some t) q h rest =
     let g : 1 + leading (has Name) t ≡ suc (length t) = omega (arith, rest t h) in
     (λ i. leading (has Name) (z i)) ∙ g ∙ sym (λ i. length (z i))
 
-host-names : (k : ℕ) (s : List ℕ) → labels k s ≡ true → leading (has Name) s ≡ length s
+pub host-names : (k : ℕ) (s : List ℕ) → labels k s ≡ true → leading (has Name) s ≡ length s
 unfolding labels
 host-names zero s e = absurd (true≢false (sym e))
 host-names (suc k) s e =

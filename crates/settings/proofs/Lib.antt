@@ -3,3 +3,5 @@ pub mod Cuts
 pub mod Turning
 pub mod Naming
 pub mod Unwriting
+pub mod Fine
+pub mod Back

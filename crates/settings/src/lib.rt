@@ -21,6 +21,7 @@ use crate::table::Table;
 use addresses::Site;
 use addresses::same_site;
 
+pub mod laws;
 pub mod lines;
 pub mod table;
 pub mod write;
