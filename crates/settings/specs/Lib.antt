@@ -3,3 +3,5 @@ pub mod Heads
 pub mod Tables
 pub mod Settings
 pub mod Views
+pub mod Written
+pub mod Unwritten

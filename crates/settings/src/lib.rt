@@ -21,8 +21,10 @@ use crate::table::Table;
 use addresses::Site;
 use addresses::same_site;
 
+pub mod laws;
 pub mod lines;
 pub mod table;
+pub mod write;
 
 // A window to open: the number of its site, and the path of its page.
 #[derive(Clone, Copy)]

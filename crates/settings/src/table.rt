@@ -2,9 +2,11 @@
 ghost use mathlib.Core.Path.{_≡_};
 ghost use mathlib.Core.List.{[], _∷_, _++_};
 ghost use mathlib.Core.Bool.{cond};
+ghost use Prim.Native.Nat.{_<_};
 ghost use lib.Dec.{ltb};
 ghost use lib.ListN.{length, take};
 ghost use Rattle.std.specs.declared.option.Option.the-variants.{Some, None};
+ghost use Rattle.std.specs.Options.{Cases as BySome};
 ghost use Rattle.std.specs.shelf.Maps.{nth};
 ghost use Rattle.settings.specs.Tables.{itemsOf, Sound};
 
@@ -16,7 +18,8 @@ pub struct Table<T> {
 
 // What stands at place i of the first n. (By value: of an array behind a reference the prover knows no length.)
 fn at<T: Copy>(items: [T; 16], n: usize, i: usize) -> Option<T>
-    ensures { λ r. ⌜ r ≡ nth (take n items) i ⌝ }
+    ensures is { λ r. ⌜ r ≡ nth (take n items) i ⌝ }
+    ensures within { λ r. ⌜ BySome r (Unit {0}) (λ _. i < 16) ⌝ }
 {
     if i < n && i < 16 {
         Some(items[i])
@@ -39,7 +42,8 @@ impl<T: Copy> Table<T> {
 
     // The value of a number.
     pub fn get(&self, i: usize) -> Option<T>
-        ensures { λ r. ⌜ r ≡ nth (itemsOf (now (self .entry))) i ⌝ }
+        ensures is { λ r. ⌜ r ≡ nth (itemsOf (now (self .entry))) i ⌝ }
+        ensures within { λ r. ⌜ BySome r (Unit {0}) (λ _. i < 16) ⌝ }
     {
         at(self.items, self.len, i)
     }

@@ -12,11 +12,11 @@ returns-then-i-lt16 g c =
     let xs = c .args .items in
     let full : length xs ≡ 16 = c .good .0 .1 .0 .1 in
     let here : c .args .i < length (take (c .args .n) xs) = omega (arith, length-take (c .args .n) xs) in
-    sym (nth-getD (take (c .args .n) xs) (c .args .i) (c .index-items-i .result) here ∙ ap Some (getD-take (c .args .n) xs (c .args .i) (c .index-items-i .result) (omega arith)))
+    record { within = c .if-i-lt16 .taken; is = sym (nth-getD (take (c .args .n) xs) (c .args .i) (c .index-items-i .result) here ∙ ap Some (getD-take (c .args .n) xs (c .args .i) (c .index-items-i .result) (omega arith))) }
 
 pub returns-else-i-n : need.returns-else-i-n
 returns-else-i-n g c =
     let xs = c .args .items in
     let full : length xs ≡ 16 = c .good .0 .1 .0 .1 in
     let past : length (take (c .args .n) xs) ≤ c .args .i = omega (arith, length-take (c .args .n) xs) in
-    sym (nth-past (take (c .args .n) xs) (c .args .i) past)
+    record { within = tt; is = sym (nth-past (take (c .args .n) xs) (c .args .i) past) }
