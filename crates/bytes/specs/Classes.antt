@@ -3,7 +3,7 @@ use mathlib.Core.Bool.{Bool, _&&_, _||_, not}
 use Prim.Native.Nat.{ℕ}
 use lib.Dec.{eqb, leb}
 use Rattle.bytes.specs.declared.Class.{Class}
-use Rattle.bytes.specs.declared.Class.the-variants.{Digit, Label, Name, Visible, Text, Token, Blank}
+use Rattle.bytes.specs.declared.Class.the-variants.{Digit, Label, Name, Visible, Text, Token, Blank, Line}
 
 abbrev pub isDigit : ℕ → Bool
 isDigit b = leb 48 b && leb b 57
@@ -28,3 +28,4 @@ has Visible b = leb 33 b && leb b 126
 has Text b = (eqb b 9 || leb 32 b) && not (eqb b 127)
 has Token b = isToken b
 has Blank b = eqb b 9 || eqb b 32
+has Line b = not (eqb b 10)

@@ -28,6 +28,8 @@ pub enum Class {
     Token,
     // space and tab
     Blank,
+    // all but the newline
+    Line,
 }
 
 fn is_token(b: u8) -> bool
@@ -54,6 +56,7 @@ pub fn is_of(c: Class, b: u8) -> bool
         Class::Text => b >= b' ' && b != 127 || b == b'\t',
         Class::Token => is_token(b),
         Class::Blank => b == b'\t' || b == b' ',
+        Class::Line => b != b'\n',
     }
 }
 

@@ -1,39 +1,47 @@
 // Pieces written one after another into a lent buffer.
 ghost use mathlib.Core.Path.{_≡_};
-ghost use lib.Dec.{leb};
-ghost use lib.ListN.{length};
 ghost use Rattle.std.specs.Joined.{joined};
-ghost use Rattle.bytes.specs.Buffers.{written, count};
+ghost use Rattle.bytes.specs.Buffers.{roomAfter, written, count, writtenFrom, countFrom};
 
-// Do the pieces fit into n bytes?
-fn fits(pieces: &[&[u8]], n: usize) -> bool
-    ensures { λ r. ⌜ r ≡ leb (length (joined now (now (pieces .entry)))) n ⌝ }
+// What is left of n bytes of room after the pieces, if they fit.
+pub fn room_after(pieces: &[&[u8]], n: usize) -> Option<usize>
+    ensures { λ r. ⌜ r ≡ roomAfter (joined now (now (pieces .entry))) n ⌝ }
 {
     let mut room = n;
     for p in pieces {
         let k = p.len();
         if k > room {
-            return false;
+            return None;
         }
         room -= k;
     }
-    true
+    Some(room)
 }
 
-// Writes the pieces one after another, if all fit; else nothing.
-pub fn put_all(out: &mut [u8], pieces: &[&[u8]]) -> Option<usize>
-    ensures answer { λ r. ⌜ r ≡ count (joined now (now (pieces .entry))) (now (out .entry)) ⌝ }
-    ensures after { λ _. ⌜ now (out .exit) ≡ written (joined now (now (pieces .entry))) (now (out .entry)) ⌝ }
+// Writes the pieces one after another from a place on, if all fit, and gives the place after them; else nothing.
+pub fn put_from(out: &mut [u8], from: usize, pieces: &[&[u8]]) -> Option<usize>
+    ensures answer { λ r. ⌜ r ≡ countFrom from (joined now (now (pieces .entry))) (now (out .entry)) ⌝ }
+    ensures after { λ _. ⌜ now (out .exit) ≡ writtenFrom from (joined now (now (pieces .entry))) (now (out .entry)) ⌝ }
 {
-    let n = out.len();
-    if !fits(pieces, n) {
+    let Some(room) = out.len().checked_sub(from) else {
         return None;
-    }
-    let mut at = 0;
+    };
+    let Some(_) = room_after(pieces, room) else {
+        return None;
+    };
+    let mut at = from;
     for p in pieces {
         let k = p.len();
         out[at..at + k].copy_from_slice(p);
         at += k;
     }
     Some(at)
+}
+
+// Writes the pieces one after another at the front, if all fit; else nothing.
+pub fn put_all(out: &mut [u8], pieces: &[&[u8]]) -> Option<usize>
+    ensures answer { λ r. ⌜ r ≡ count (joined now (now (pieces .entry))) (now (out .entry)) ⌝ }
+    ensures after { λ _. ⌜ now (out .exit) ≡ written (joined now (now (pieces .entry))) (now (out .entry)) ⌝ }
+{
+    put_from(out, 0, pieces)
 }
