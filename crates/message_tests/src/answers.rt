@@ -141,24 +141,24 @@ fn bad() -> Result<(), Fail> {
     Ok(())
 }
 
+// Is an answer written that has so many bytes, and read back by its own limit?
+fn passes(kind: Kind, body: &[u8]) -> bool {
+    let mut out = [0u8; 16500];
+    let Some(n) = write_answer(&mut out, kind, Response { code: 200, token: None, allowed: None, body }) else {
+        return false;
+    };
+    n <= 16500 && fault(kind, &out[0..n]) == 0
+}
+
 #[test]
 fn limits() -> Result<(), Fail> {
-    let mut out = [0u8; 16500];
     let body = [b'x'; 16385];
-    let cases: [(Kind, usize, bool); 4] = [(Kind::Asked, 4096, true), (Kind::Asked, 4097, false), (Kind::Page, 16384, true), (Kind::Page, 16385, false)];
-    for (kind, length, fits) in cases {
-        check(length <= 16385)?;
-        let a = Response { code: 200, token: None, allowed: None, body: &body[0..length] };
-        check(write_answer(&mut out, kind, a).is_some() == fits)?;
-    }
-    check(fault(Kind::Asked, b"HTTP/1.1 200 \r\ncontent-length: 16384\r\n\r\n") == 6)?;
-    let page = Response { code: 200, token: None, allowed: None, body: &body[0..16384] };
-    let Some(n) = write_answer(&mut out, Kind::Page, page) else {
-        return Err(Fail::new("a page of 16,384 bytes is refused"));
-    };
-    check(n <= 16500)?;
-    check(fault(Kind::Page, &out[0..n]) == 0)?;
-    check(fault(Kind::Asked, &out[0..n]) == 6)
+    check(passes(Kind::Asked, &body[0..4096]))?;
+    check(!passes(Kind::Asked, &body[0..4097]))?;
+    check(passes(Kind::Page, &body[0..16384]))?;
+    check(!passes(Kind::Page, &body))?;
+    check(fault(Kind::Asked, b"HTTP/1.1 200 \r\ncontent-length: 4097\r\n\r\n") == 6)?;
+    check(fault(Kind::Page, b"HTTP/1.1 200 \r\ncontent-length: 16385\r\n\r\n") == 6)
 }
 
 // Whom an answer lets see it.
@@ -202,7 +202,12 @@ fn written() -> Result<(), Fail> {
         Response { code: 200, token: None, allowed: Some(Allowed::Site(Site { host: b"a", port: 0 })), body: b"" },
     ];
     for a in parts {
-        check(write_answer(&mut out, Kind::Page, a) == None)?;
+        check(is_unwritten(a))?;
     }
     Ok(())
+}
+
+fn is_unwritten(a: Response<'_>) -> bool {
+    let mut out = [0u8; 200];
+    write_answer(&mut out, Kind::Page, a) == None
 }

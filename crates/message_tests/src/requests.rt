@@ -88,35 +88,46 @@ fn bad() -> Result<(), Fail> {
 
 #[test]
 fn written() -> Result<(), Fail> {
-    let site = Site { host: b"b.example", port: 8443 };
-    let page = Site { host: b"a.example", port: 443 };
     let text: &[u8] = b"POST /p HTTP/1.1\r\nhost: b.example:8443\r\norigin: https://a.example\r\ncookie: t\r\ncontent-length: 2\r\n\r\nhi";
-    let q = Request { site, path: b"/p", origin: Some(page), token: Some(b"t"), body: b"hi" };
-    let mut out = [b'.'; 1200];
+    let q = Request { site: Site { host: b"b.example", port: 8443 }, path: b"/p", origin: Some(Site { host: b"a.example", port: 443 }), token: Some(b"t"), body: b"hi" };
+    let mut out = [b'.'; 200];
     let n = text.len();
-    check(n < 1200)?;
+    check(n < 200)?;
     check(write_request(&mut out[0..n - 1], q) == None)?;
     check(out[0] == b'.')?;
     check(write_request(&mut out, q) == Some(n))?;
     check(&out[0..n] == text)?;
-    check(out[n] == b'.')?;
-    // a page that is opened: no origin, no body; no token is not the empty one
-    let opened: &[u8] = b"POST / HTTP/1.1\r\nhost: a.example\r\ncontent-length: 0\r\n\r\n";
-    let n = opened.len();
-    check(n < 1200)?;
-    check(write_request(&mut out, Request { site: page, path: b"/", origin: None, token: None, body: b"" }) == Some(n))?;
-    check(&out[0..n] == opened)?;
-    // what could not be read back is not written
+    check(out[n] == b'.')
+}
+
+// The request for a page that is opened: no origin and no body; no token is not the empty one.
+#[test]
+fn opened() -> Result<(), Fail> {
+    let text: &[u8] = b"POST / HTTP/1.1\r\nhost: a.example\r\ncontent-length: 0\r\n\r\n";
+    let q = Request { site: Site { host: b"a.example", port: 443 }, path: b"/", origin: None, token: None, body: b"" };
+    let mut out = [0u8; 200];
+    let n = text.len();
+    check(n < 200)?;
+    check(write_request(&mut out, q) == Some(n))?;
+    check(&out[0..n] == text)
+}
+
+// Is a request with these parts not written?
+fn is_unwritten(path: &[u8], origin: &[u8], token: &[u8], body: &[u8]) -> bool {
+    let site = Site { host: b"a", port: 1 };
+    let mut out = [0u8; 1200];
+    write_request(&mut out, Request { site, path, origin: Some(Site { host: origin, port: 1 }), token: Some(token), body }) == None
+}
+
+// What could not be read back is not written.
+#[test]
+fn unwritten() -> Result<(), Fail> {
     let body = [b'x'; 1025];
-    let parts: [Request<'_>; 5] = [
-        Request { site, path: b"", origin: None, token: None, body: b"" },
-        Request { site, path: b"/ HTTP/1.1\r\nx: y", origin: None, token: None, body: b"" },
-        Request { site, path: b"/", origin: Some(Site { host: b"A", port: 1 }), token: None, body: b"" },
-        Request { site, path: b"/", origin: None, token: Some(b"a b"), body: b"" },
-        Request { site, path: b"/", origin: None, token: None, body: &body },
-    ];
-    for q in parts {
-        check(write_request(&mut out, q) == None)?;
-    }
-    check(write_request(&mut out, Request { site, path: b"/", origin: None, token: None, body: &body[0..1024] }).is_some())
+    check(!is_unwritten(b"/", b"b", b"t", b""))?;
+    check(is_unwritten(b"", b"b", b"t", b""))?;
+    check(is_unwritten(b"/ HTTP/1.1\r\nx: y", b"b", b"t", b""))?;
+    check(is_unwritten(b"/", b"B", b"t", b""))?;
+    check(is_unwritten(b"/", b"b", b"a b", b""))?;
+    check(!is_unwritten(b"/", b"b", b"t", &body[0..1024]))?;
+    check(is_unwritten(b"/", b"b", b"t", &body))
 }
