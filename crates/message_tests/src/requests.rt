@@ -113,7 +113,7 @@ fn opened() -> Result<(), Fail> {
 }
 
 // Is a request with these parts not written?
-fn is_unwritten(path: &[u8], origin: &[u8], token: &[u8], body: &[u8]) -> bool {
+fn is_unwritten<'a>(path: &'a [u8], origin: &'a [u8], token: &'a [u8], body: &'a [u8]) -> bool {
     let site = Site { host: b"a", port: 1 };
     let mut out = [0u8; 1200];
     write_request(&mut out, Request { site, path, origin: Some(Site { host: origin, port: 1 }), token: Some(token), body }) == None
