@@ -115,19 +115,22 @@ fn damage(random: &mut Random, text: &[u8]) -> Vec<u8> {
     text
 }
 
-fn speed(texts: &[Vec<u8>], read: fn(&[u8]) -> u64) -> f64 {
+/// Megabytes per second of each reader: the best of many rounds, in which they take turns.
+fn speeds<const N: usize>(texts: &[Vec<u8>], readers: [fn(&[u8]) -> u64; N]) -> [f64; N] {
     let bytes: usize = texts.iter().map(Vec::len).sum();
-    let mut best = f64::MAX;
-    for _ in 0..9 {
-        let start = Instant::now();
-        for _ in 0..20 {
-            for text in texts {
-                black_box(read(black_box(text)));
+    let mut best = [f64::MAX; N];
+    for _ in 0..40 {
+        for (read, best) in readers.iter().zip(&mut best) {
+            let start = Instant::now();
+            for _ in 0..5 {
+                for text in texts {
+                    black_box(read(black_box(text)));
+                }
             }
+            *best = best.min(start.elapsed().as_secs_f64() / 5.0);
         }
-        best = best.min(start.elapsed().as_secs_f64() / 20.0);
     }
-    bytes as f64 / best / 1e6
+    best.map(|seconds| bytes as f64 / seconds / 1e6)
 }
 
 fn main() {
@@ -155,7 +158,7 @@ fn main() {
     println!("{same} texts: the same answer from both ({read} read, {six} with fault 6, {seven} with fault 7)");
 
     for (name, texts) in [("short", &short), ("long", &long), ("mixed", &mixed)] {
-        let (p, r, h) = (speed(texts, proved), speed(texts, plain), speed(texts, httparse));
+        let [p, r, h] = speeds(texts, [proved, plain, httparse]);
         println!("{name}: proved {p:.0} MB/s, plain Rust {r:.0} MB/s (ratio {:.2}), httparse {h:.0} MB/s (ratio {:.2})", p / r, p / h);
     }
 }

@@ -4,7 +4,6 @@ ghost use Rattle.std.specs.Options.{mapped};
 ghost use Rattle.lines.specs.Views.{answerOf};
 ghost use Rattle.answers.specs.Answers.{limit, Known, lengthField, tokenField, allowsOf, allowedField, taking, codeThen, statusThen, readAnswer};
 ghost use Rattle.answers.specs.Views.{allowsBy, knownOf, contentOf};
-
 pub mod seen;
 pub mod within;
 pub mod write;
@@ -64,8 +63,8 @@ fn limit_of(kind: Kind) -> u32
     }
 }
 
-fn length_field<'a>(h: Heads<'a>, v: &[u8]) -> Result<Heads<'a>, MessageFault>
-    ensures { λ r. ⌜ answerOf knownOf r ≡ lengthField (knownOf (h .entry)) (now (v .entry)) ⌝ }
+fn length_field(h: &mut Heads<'_>, v: &[u8]) -> Result<(), MessageFault>
+    ensures { λ r. ⌜ answerOf (λ _. knownOf (now (h .exit))) r ≡ lengthField (knownOf (now (h .entry))) (now (v .entry)) ⌝ }
 {
     if v.is_empty() || span(Class::Digit, v) != v.len() {
         return Err(MessageFault::Value);
@@ -73,26 +72,18 @@ fn length_field<'a>(h: Heads<'a>, v: &[u8]) -> Result<Heads<'a>, MessageFault>
     let Some(n) = read_number(v, limit_of(h.kind)) else {
         return Err(MessageFault::Unreadable);
     };
-    Ok(Heads {
-        kind: h.kind,
-        length: Some(n),
-        token: h.token,
-        allowed: h.allowed,
-    })
+    h.length = Some(n);
+    Ok(())
 }
 
-fn token_field<'a>(h: Heads<'a>, v: &'a [u8]) -> Result<Heads<'a>, MessageFault>
-    ensures { λ r. ⌜ answerOf knownOf r ≡ tokenField (knownOf (h .entry)) (now (v .entry)) ⌝ }
+fn token_field<'a>(h: &mut Heads<'a>, v: &'a [u8]) -> Result<(), MessageFault>
+    ensures { λ r. ⌜ answerOf (λ _. knownOf (now (h .exit))) r ≡ tokenField (knownOf (now (h .entry))) (now (v .entry)) ⌝ }
 {
     if !is_token(v) {
         return Err(MessageFault::Value);
     }
-    Ok(Heads {
-        kind: h.kind,
-        length: h.length,
-        token: Some(v),
-        allowed: h.allowed,
-    })
+    h.token = Some(v);
+    Ok(())
 }
 
 fn allowed_of(v: &[u8]) -> Option<Allowed<'_>>
@@ -107,18 +98,14 @@ fn allowed_of(v: &[u8]) -> Option<Allowed<'_>>
     Some(Allowed::Site(site))
 }
 
-fn allowed_field<'a>(h: Heads<'a>, v: &'a [u8]) -> Result<Heads<'a>, MessageFault>
-    ensures { λ r. ⌜ answerOf knownOf r ≡ allowedField (knownOf (h .entry)) (allowsOf (now (v .entry))) ⌝ }
+fn allowed_field<'a>(h: &mut Heads<'a>, v: &'a [u8]) -> Result<(), MessageFault>
+    ensures { λ r. ⌜ answerOf (λ _. knownOf (now (h .exit))) r ≡ allowedField (knownOf (now (h .entry))) (allowsOf (now (v .entry))) ⌝ }
 {
     let Some(a) = allowed_of(v) else {
         return Err(MessageFault::Value);
     };
-    Ok(Heads {
-        kind: h.kind,
-        length: h.length,
-        token: h.token,
-        allowed: Some(a),
-    })
+    h.allowed = Some(a);
+    Ok(())
 }
 
 impl<'a> Fields<'a> for Heads<'a> as HeadFields {
@@ -128,7 +115,7 @@ impl<'a> Fields<'a> for Heads<'a> as HeadFields {
 
     ghost taking = { taking };
 
-    fn take(self, name: &[u8], value: &'a [u8]) -> Result<Self, MessageFault> {
+    fn take(&mut self, name: &[u8], value: &'a [u8]) -> Result<(), MessageFault> {
         if same_name(name, b"transfer-encoding") {
             return Err(MessageFault::Unreadable);
         }
@@ -141,7 +128,7 @@ impl<'a> Fields<'a> for Heads<'a> as HeadFields {
         if same_name(name, b"access-control-allow-origin") {
             return allowed_field(self, value);
         }
-        Ok(self)
+        Ok(())
     }
 }
 
@@ -180,12 +167,7 @@ pub fn read_answer<'a>(kind: Kind, s: &'a [u8]) -> Result<Response<'a>, MessageF
     let Some((code, rest)) = status_then(s) else {
         return Err(MessageFault::Unreadable);
     };
-    let none = Heads {
-        kind,
-        length: None,
-        token: None,
-        allowed: None,
-    };
+    let none = Heads { kind, length: None, token: None, allowed: None };
     let (h, body) = match read_fields(none, rest) {
         Ok(p) => p,
         Err(e) => return Err(e),
@@ -196,10 +178,5 @@ pub fn read_answer<'a>(kind: Kind, s: &'a [u8]) -> Result<Response<'a>, MessageF
     if body.len() != n as usize {
         return Err(MessageFault::Unreadable);
     }
-    Ok(Response {
-        code,
-        token: h.token,
-        allowed: h.allowed,
-        body,
-    })
+    Ok(Response { code, token: h.token, allowed: h.allowed, body })
 }

@@ -35,8 +35,12 @@ pub enum Class {
 fn is_token(b: u8) -> bool
     ensures { λ r. ⌜ r ≡ isToken b ⌝ }
 {
+    // most bytes of a name are small letters
+    if b >= b'^' {
+        return b <= b'z' || b == b'|' || b == b'~';
+    }
     match b {
-        33 | 35..=39 | 42..=43 | 45..=46 | 48..=57 | 65..=90 | 94..=122 | 124 | 126 => true,
+        b'A'..=b'Z' | b'-'..=b'.' | b'0'..=b'9' | b'!' | b'#'..=b'\'' | b'*'..=b'+' => true,
         _ => false,
     }
 }
@@ -49,7 +53,7 @@ pub fn is_of(c: Class, b: u8) -> bool
         Class::Label => b >= b'a' && b <= b'z' || b >= b'0' && b <= b'9' || b == b'-',
         Class::Name => b >= b'a' && b <= b'z' || b >= b'0' && b <= b'9' || b == b'-' || b == b'.',
         Class::Visible => b >= b'!' && b <= b'~',
-        Class::Text => (b == b'\t' || b >= b' ') && b != 127,
+        Class::Text => b >= b' ' && b != 127 || b == b'\t',
         Class::Token => is_token(b),
         Class::Blank => b == b'\t' || b == b' ',
         Class::Line => b != b'\n',

@@ -23,21 +23,22 @@ pub trait Fields<'a>: Sized + Copy {
     // what is known after one more name and value
     ghost taking: { Known → List ℕ → List ℕ → Answer Known };
 
-    fn take(self, name: &[u8], value: &'a [u8]) -> Result<Self, MessageFault>
-        ensures { λ r. ⌜ answerOf known r ≡ taking (known self) (now (name .entry)) (now (value .entry)) ⌝ };
+    // One field more.
+    fn take(&mut self, name: &[u8], value: &'a [u8]) -> Result<(), MessageFault>
+        ensures { λ r. ⌜ answerOf (λ _. known (now (self .exit))) r ≡ taking (known (now (self .entry))) (now (name .entry)) (now (value .entry)) ⌝ };
 }
 
 // One field more; the first k lines of s are before it, and none of them has a name that is not marked.
-fn take_field<'a, F: Fields<'a>>(fields: F, marked: bool, s: &'a [u8], k: usize, name: &'a [u8], value: &'a [u8]) -> Result<F, MessageFault>
+fn take_field<'a, F: Fields<'a>>(fields: &mut F, marked: bool, s: &'a [u8], k: usize, name: &'a [u8], value: &'a [u8]) -> Result<(), MessageFault>
     requires { ⌜ (marked ≡ false → among (now name) (namesOf k (now s)) ≡ false) ⌝ }
-    ensures { λ r. ⌜ answerOf (F·Fields .known) r ≡ fieldTaken (F·Fields .taking) (namesOf k (now (s .entry))) (F·Fields .known fields) (now (name .entry), now (value .entry)) ⌝ }
+    ensures { λ r. ⌜ answerOf (λ _. F·Fields .known (now (fields .exit))) r ≡ fieldTaken (F·Fields .taking) (namesOf k (now (s .entry))) (F·Fields .known (now (fields .entry))) (now (name .entry), now (value .entry)) ⌝ }
 {
     match fields.take(name, value) {
-        Ok(next) => {
+        Ok(_) => {
             if marked && is_named(s, k, name) {
                 return Err(MessageFault::Value);
             }
-            Ok(next)
+            Ok(())
         }
         Err(e) => Err(e),
     }
@@ -62,9 +63,8 @@ pub fn read_fields<'a, F: Fields<'a>>(none: F, s: &'a [u8]) -> Result<(F, &'a [u
             return Err(MessageFault::Unreadable);
         };
         let slot = slot_of(name);
-        match take_field(known, marks[slot], s, k, name, value) {
-            Ok(more) => {
-                known = more;
+        match take_field(&mut known, marks[slot], s, k, name, value) {
+            Ok(_) => {
                 rest = next;
                 marks[slot] = true;
             }

@@ -14,7 +14,7 @@ use Rattle.std.specs.shelf.Lists.{leading}
 use Rattle.std.proofs.shelf.Decimals.{decimal-some}
 use Rattle.std.proofs.shelf.Tests.{cond-true, and-parts, leb-true, eqb-true, eq-eqb, lt-ltb}
 use Rattle.bytes.specs.declared.Class.the-variants.{Visible}
-use Rattle.bytes.specs.Answers.{Answer, Read}
+use Rattle.bytes.specs.Answers.{Answer, Read, Fault}
 use Rattle.bytes.specs.Classes.{has}
 use Rattle.bytes.specs.Fronts.{andThen, front, past}
 use Rattle.bytes.specs.Numbers.{number}
@@ -26,7 +26,7 @@ use Rattle.lines.specs.Heads.{head, fields}
 use Rattle.lines.specs.Lines.{crlf, fieldText, among, tokenOk, tokenFits, tokenLine, lengthLine}
 use Rattle.lines.proofs.Back.{field-then, fields-end}
 use Rattle.lines.proofs.Values.{decimal-visible, host-visible, host-back, site-visible, site-back}
-use Rattle.requests.specs.Requests.{Known, unknown, orUnreadable, readable, taking, Asking, bodyOf, pathThen, readRequest}
+use Rattle.requests.specs.Requests.{Known, unknown, orUnreadable, readable, hostField, originField, lengthFrom, taking, Asking, bodyOf, pathThen, readRequest}
 use Rattle.requests.specs.Written.{hostLine, originLine, requestText, originFits, canWrite, RequestReadsBack}
 
 abbrev Site : Type 0
@@ -53,7 +53,7 @@ host-then : (h : Site) (rest : List ℕ) → siteOk (h .0) (h .1) ≡ true → l
 host-then h rest ok =
     let v = h .0 ++ portText (h .1) in
     ap (left [] unknown) (append-assoc (fieldText (codes "host") v) crlf rest)
-    ∙ field-then (codes "host") v refl refl (host-visible (h .0) (h .1) ok) taking [] unknown (known (Some h) None None None) rest (ap (λ o. orUnreadable (andThen o (λ s. Some (known (Some s) None None None)))) (host-back (h .0) (h .1) ok)) refl
+    ∙ field-then (codes "host") v refl refl (host-visible (h .0) (h .1) ok) taking [] unknown (known (Some h) None None None) rest (ap (hostField unknown) (host-back (h .0) (h .1) ok)) refl
 
 origin-then : (h : Site) (o : Option Site) (rest : List ℕ) → originFits o ≡ true → left (codes "host" ∷ []) (known (Some h) None None None) (originLine o ++ rest) ≡ left (originNames o) (known (Some h) o None None) rest
 origin-then h None rest ok = refl
@@ -61,7 +61,7 @@ origin-then h (Some s) rest ok =
     let v = siteText (s .0) (s .1) in
     let f = known (Some h) None None None in
     ap (left (codes "host" ∷ []) f) (append-assoc (fieldText (codes "origin") v) crlf rest)
-    ∙ field-then (codes "origin") v refl refl (site-visible (s .0) (s .1) ok) taking (codes "host" ∷ []) f (known (Some h) (Some s) None None) rest (ap (λ x. orUnreadable (andThen x (λ y. Some (known (Some h) (Some y) None None)))) (site-back (s .0) (s .1) ok)) refl
+    ∙ field-then (codes "origin") v refl refl (site-visible (s .0) (s .1) ok) taking (codes "host" ∷ []) f (known (Some h) (Some s) None None) rest (ap (originField f) (site-back (s .0) (s .1) ok)) refl
 
 token-new : (o : Option Site) → among (codes "cookie") (originNames o) ≡ false
 token-new None = refl
@@ -73,7 +73,7 @@ token-then h o (Some t) rest ok =
     let visible = eqb-true (leading (has Visible) t) (length t) (and-parts (leb (length t) 64) (eqb (leading (has Visible) t) (length t)) ok .1) in
     let f = known (Some h) o None None in
     ap (left (originNames o) f) (append-assoc (fieldText (codes "cookie") t) crlf rest)
-    ∙ field-then (codes "cookie") t refl refl visible taking (originNames o) f (known (Some h) o (Some t) None) rest (ap orUnreadable (cond-true (tokenOk t) (Some (known (Some h) o (Some t) None)) None ok)) (token-new o)
+    ∙ field-then (codes "cookie") t refl refl visible taking (originNames o) f (known (Some h) o (Some t) None) rest (cond-true (tokenOk t) (Read (known (Some h) o (Some t) None)) (Fault 6) ok) (token-new o)
 
 length-new : (o : Option Site) (t : Option (List ℕ)) → among (codes "content-length") (tokenNames (originNames o) t) ≡ false
 length-new None None = refl
@@ -89,8 +89,7 @@ body-then h o t body fit =
     let names = tokenNames (originNames o) t in
     let f = known (Some h) o t None in
     let takes : taking f (codes "content-length") ds ≡ Read (known (Some h) o t (Some n)) =
-    ap orUnreadable (cond-true (ltb 0 (length ds)) (andThen (number 1024 0 ds) (λ m. Some (known (Some h) o t (Some m)))) None (lt-ltb 0 (length ds) (decimal-some n small))
-    ∙ ap (λ x. andThen x (λ m. Some (known (Some h) o t (Some m)))) (number-decimal 1024 n fit small)) in
+        cond-true (ltb 0 (length ds)) (lengthFrom f (number 1024 0 ds)) (Fault 6) (lt-ltb 0 (length ds) (decimal-some n small)) ∙ ap (lengthFrom f) (number-decimal 1024 n fit small) in
     ap (λ l. left names f (codes "content-length: " ++ l)) (append-assoc ds (crlf ++ crlf) body)
     ∙ field-then (codes "content-length") ds refl refl (decimal-visible n small) taking names f (known (Some h) o t (Some n)) (crlf ++ body) takes (length-new o t)
     ∙ fields-end taking (names ++ (codes "content-length" ∷ [])) (known (Some h) o t (Some n)) body
@@ -117,8 +116,8 @@ request-back q ok =
     let visible = path-visible (q .path) (b .0) in
     let read = host-then (q .site) rest1 (a .0) ∙ origin-then (q .site) (q .origin) rest2 (d .0) ∙ token-then (q .site) (q .origin) (q .token) rest3 (e .0) ∙ body-then (q .site) (q .origin) (q .token) (q .body) (leb-true n 1024 (e .1)) in
     ap orUnreadable (
-    ap (λ t. pathThen (front (has Visible) t) (past (has Visible) t)) (append-assoc (q .path) http rest)
-    ∙ (λ i. pathThen (front-append (has Visible) (q .path) (http ++ rest) visible refl i) (past-append (has Visible) (q .path) (http ++ rest) visible refl i))
-    ∙ cond-true (pathOk (q .path)) (andThen (readable (fields taking unknown rest)) (λ h. bodyOf (q .path) (h .0) (h .1))) None (b .0)
-    ∙ ap (λ o. andThen (readable o) (λ h. bodyOf (q .path) (h .0) (h .1))) read
-    ∙ cond-true (eqb n n) (Some q) None (eq-eqb n n refl))
+      ap (λ t. pathThen (front (has Visible) t) (past (has Visible) t)) (append-assoc (q .path) http rest)
+      ∙ (λ i. pathThen (front-append (has Visible) (q .path) (http ++ rest) visible refl i) (past-append (has Visible) (q .path) (http ++ rest) visible refl i))
+      ∙ cond-true (pathOk (q .path)) (andThen (readable (fields taking unknown rest)) (λ h. bodyOf (q .path) (h .0) (h .1))) None (b .0)
+      ∙ ap (λ o. andThen (readable o) (λ h. bodyOf (q .path) (h .0) (h .1))) read
+      ∙ cond-true (eqb n n) (Some q) None (eq-eqb n n refl))

@@ -40,30 +40,33 @@ readable (Read x) = Some x
 abbrev pub hostOf : List ℕ → Option (List ℕ × ℕ)
 hostOf v = endFrom (hostThen (front (has Name) v) (past (has Name) v))
 
-abbrev pub hostField : Known → List ℕ → Option Known
-hostField f v = andThen (hostOf v) (λ s. Some (record { host = Some s; origin = f .origin; token = f .token; length = f .length }))
+abbrev pub hostField : Known → Option (List ℕ × ℕ) → Answer Known
+hostField f None = Fault 6
+hostField f (Some s) = Read (record { host = Some s; origin = f .origin; token = f .token; length = f .length })
 
-abbrev pub originField : Known → List ℕ → Option Known
-originField f v = andThen (readSite v) (λ s. Some (record { host = f .host; origin = Some s; token = f .token; length = f .length }))
+abbrev pub originField : Known → Option (List ℕ × ℕ) → Answer Known
+originField f None = Fault 6
+originField f (Some s) = Read (record { host = f .host; origin = Some s; token = f .token; length = f .length })
 
-abbrev pub tokenField : Known → List ℕ → Option Known
-tokenField f v = cond (tokenOk v) (Some (record { host = f .host; origin = f .origin; token = Some v; length = f .length })) None
+abbrev pub tokenField : Known → List ℕ → Answer Known
+tokenField f v = cond (tokenOk v) (Read (record { host = f .host; origin = f .origin; token = Some v; length = f .length })) (Fault 6)
 
--- up to 1,024 bytes
-abbrev pub lengthField : Known → List ℕ → Option Known
-lengthField f v = cond (ltb 0 (length v)) (andThen (number 1024 0 v) (λ n. Some (record { host = f .host; origin = f .origin; token = f .token; length = Some n }))) None
+abbrev pub lengthFrom : Known → Option ℕ → Answer Known
+lengthFrom f None = Fault 6
+lengthFrom f (Some n) = Read (record { host = f .host; origin = f .origin; token = f .token; length = Some n })
+
+-- digits that write up to 1,024
+abbrev pub lengthField : Known → List ℕ → Answer Known
+lengthField f v = cond (ltb 0 (length v)) (lengthFrom f (number 1024 0 v)) (Fault 6)
 
 -- a field by its name; the body has a length and no other encoding, and other fields say nothing
-abbrev pub fieldBy : Known → List ℕ → List ℕ → Option Known
-fieldBy f name v =
-    cond (sameName name (codes "transfer-encoding")) None
-    (cond (sameName name (codes "host")) (hostField f v)
-    (cond (sameName name (codes "origin")) (originField f v)
-    (cond (sameName name (codes "cookie")) (tokenField f v)
-    (cond (sameName name (codes "content-length")) (lengthField f v) (Some f)))))
-
 abbrev pub taking : Known → List ℕ → List ℕ → Answer Known
-taking f name v = orUnreadable (fieldBy f name v)
+taking f name v =
+    cond (sameName name (codes "transfer-encoding")) (Fault 6)
+    (cond (sameName name (codes "host")) (hostField f (hostOf v))
+    (cond (sameName name (codes "origin")) (originField f (readSite v))
+    (cond (sameName name (codes "cookie")) (tokenField f v)
+    (cond (sameName name (codes "content-length")) (lengthField f v) (Read f)))))
 
 -- what is asked: of which site and path, by a page of which site (by none where a page is opened), with which token and bytes
 pub record Asking : Type 0 where

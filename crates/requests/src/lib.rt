@@ -1,9 +1,10 @@
 // Requests: read from bytes to the end, or refused.
 ghost use mathlib.Core.Path.{_≡_};
 ghost use Rattle.std.specs.Options.{mapped};
+ghost use Rattle.addresses.specs.Address.{readSite};
 ghost use Rattle.addresses.specs.Views.{siteOf};
 ghost use Rattle.lines.specs.Views.{answerOf};
-ghost use Rattle.requests.specs.Requests.{Known, hostOf, hostField, originField, tokenField, lengthField, fieldBy, taking, pathThen, readRequest};
+ghost use Rattle.requests.specs.Requests.{Known, hostOf, hostField, originField, tokenField, lengthField, taking, pathThen, readRequest};
 ghost use Rattle.requests.specs.Views.{knownOf, askingOf};
 use addresses::Site;
 use addresses::host_then;
@@ -54,84 +55,47 @@ fn host_of(v: &[u8]) -> Option<Site<'_>>
     Some(Site { host, port })
 }
 
-fn host_field<'a>(h: Heads<'a>, v: &'a [u8]) -> Option<Heads<'a>>
-    ensures { λ r. ⌜ mapped knownOf r ≡ hostField (knownOf (h .entry)) (now (v .entry)) ⌝ }
+fn host_field<'a>(h: &mut Heads<'a>, v: &'a [u8]) -> Result<(), MessageFault>
+    ensures { λ r. ⌜ answerOf (λ _. knownOf (now (h .exit))) r ≡ hostField (knownOf (now (h .entry))) (hostOf (now (v .entry))) ⌝ }
 {
     let Some(site) = host_of(v) else {
-        return None;
+        return Err(MessageFault::Unreadable);
     };
-    Some(Heads {
-        host: Some(site),
-        origin: h.origin,
-        token: h.token,
-        length: h.length,
-    })
+    h.host = Some(site);
+    Ok(())
 }
 
-fn origin_field<'a>(h: Heads<'a>, v: &'a [u8]) -> Option<Heads<'a>>
-    ensures { λ r. ⌜ mapped knownOf r ≡ originField (knownOf (h .entry)) (now (v .entry)) ⌝ }
+fn origin_field<'a>(h: &mut Heads<'a>, v: &'a [u8]) -> Result<(), MessageFault>
+    ensures { λ r. ⌜ answerOf (λ _. knownOf (now (h .exit))) r ≡ originField (knownOf (now (h .entry))) (readSite (now (v .entry))) ⌝ }
 {
     let Some(site) = read_site(v) else {
-        return None;
+        return Err(MessageFault::Unreadable);
     };
-    Some(Heads {
-        host: h.host,
-        origin: Some(site),
-        token: h.token,
-        length: h.length,
-    })
+    h.origin = Some(site);
+    Ok(())
 }
 
-fn token_field<'a>(h: Heads<'a>, v: &'a [u8]) -> Option<Heads<'a>>
-    ensures { λ r. ⌜ mapped knownOf r ≡ tokenField (knownOf (h .entry)) (now (v .entry)) ⌝ }
+fn token_field<'a>(h: &mut Heads<'a>, v: &'a [u8]) -> Result<(), MessageFault>
+    ensures { λ r. ⌜ answerOf (λ _. knownOf (now (h .exit))) r ≡ tokenField (knownOf (now (h .entry))) (now (v .entry)) ⌝ }
 {
     if !is_token(v) {
-        return None;
+        return Err(MessageFault::Unreadable);
     }
-    Some(Heads {
-        host: h.host,
-        origin: h.origin,
-        token: Some(v),
-        length: h.length,
-    })
+    h.token = Some(v);
+    Ok(())
 }
 
-fn length_field<'a>(h: Heads<'a>, v: &[u8]) -> Option<Heads<'a>>
-    ensures { λ r. ⌜ mapped knownOf r ≡ lengthField (knownOf (h .entry)) (now (v .entry)) ⌝ }
+fn length_field(h: &mut Heads<'_>, v: &[u8]) -> Result<(), MessageFault>
+    ensures { λ r. ⌜ answerOf (λ _. knownOf (now (h .exit))) r ≡ lengthField (knownOf (now (h .entry))) (now (v .entry)) ⌝ }
 {
     if v.is_empty() {
-        return None;
+        return Err(MessageFault::Unreadable);
     }
     let Some(n) = read_number(v, 1024) else {
-        return None;
+        return Err(MessageFault::Unreadable);
     };
-    Some(Heads {
-        host: h.host,
-        origin: h.origin,
-        token: h.token,
-        length: Some(n),
-    })
-}
-
-fn field_by<'a>(h: Heads<'a>, name: &[u8], v: &'a [u8]) -> Option<Heads<'a>>
-    ensures { λ r. ⌜ mapped knownOf r ≡ fieldBy (knownOf (h .entry)) (now (name .entry)) (now (v .entry)) ⌝ }
-{
-    if same_name(name, b"transfer-encoding") {
-        return None;
-    }
-    if same_name(name, b"host") {
-        return host_field(h, v);
-    }
-    if same_name(name, b"origin") {
-        return origin_field(h, v);
-    }
-    if same_name(name, b"cookie") {
-        return token_field(h, v);
-    }
-    if same_name(name, b"content-length") {
-        return length_field(h, v);
-    }
-    Some(h)
+    h.length = Some(n);
+    Ok(())
 }
 
 impl<'a> Fields<'a> for Heads<'a> as RequestFields {
@@ -141,11 +105,23 @@ impl<'a> Fields<'a> for Heads<'a> as RequestFields {
 
     ghost taking = { taking };
 
-    fn take(self, name: &[u8], value: &'a [u8]) -> Result<Self, MessageFault> {
-        match field_by(self, name, value) {
-            Some(h) => Ok(h),
-            None => Err(MessageFault::Unreadable),
+    fn take(&mut self, name: &[u8], value: &'a [u8]) -> Result<(), MessageFault> {
+        if same_name(name, b"transfer-encoding") {
+            return Err(MessageFault::Unreadable);
         }
+        if same_name(name, b"host") {
+            return host_field(self, value);
+        }
+        if same_name(name, b"origin") {
+            return origin_field(self, value);
+        }
+        if same_name(name, b"cookie") {
+            return token_field(self, value);
+        }
+        if same_name(name, b"content-length") {
+            return length_field(self, value);
+        }
+        Ok(())
     }
 }
 
@@ -158,12 +134,7 @@ fn path_then<'a>(path: &'a [u8], s: &'a [u8]) -> Option<Request<'a>>
     let Some(rest) = strip(s, b" HTTP/1.1\r\n") else {
         return None;
     };
-    let none = Heads {
-        host: None,
-        origin: None,
-        token: None,
-        length: None,
-    };
+    let none = Heads { host: None, origin: None, token: None, length: None };
     let Ok((h, body)) = read_fields(none, rest) else {
         return None;
     };
@@ -176,13 +147,7 @@ fn path_then<'a>(path: &'a [u8], s: &'a [u8]) -> Option<Request<'a>>
     if body.len() != n as usize {
         return None;
     }
-    Some(Request {
-        site,
-        path,
-        origin: h.origin,
-        token: h.token,
-        body,
-    })
+    Some(Request { site, path, origin: h.origin, token: h.token, body })
 }
 
 // Reads a request to its end.

@@ -24,7 +24,7 @@ loop-k-again g c =
     let r = c .in-Some-field-of .ensures tt in
     let push = names-push (c .loop-k .k) (c .args .s .now) _ _ _ _ _ (i .1) q r in
     (i .0 ∙ head-more _ _ _ _ _ _ _ _ _ _ _ (c .loop-k-test .taken) q (c .if-is-empty .ensures tt) r (c .in-Ok .ensures tt)
-     ∙ ap (λ ns. head (g .F·Fields .taking) (length (c .args .s .now) - (c .loop-k .k + 1)) ns (g .F·Fields .known (c .in-Ok .more)) (c .in-Some .next .now)) (sym push),
+     ∙ ap (λ ns. head (g .F·Fields .taking) (length (c .args .s .now) - (c .loop-k .k + 1)) ns (g .F·Fields .known (c .take-field .last .fields)) (c .in-Some .next .now)) (sym push),
      named-push (c .loop-k .k) (c .args .s .now) _ _ _ _ _ (i .1) q r,
      marked-push (c .loop-k .marks) (c .loop-k .k) (c .args .s .now) (c .in-Some-field-of .name .now) (c .slot-of-slot .result) (i .2) (c .slot-of-slot .ensures .is) (omega arith) push,
      length-set _ _ _ ∙ i .3)

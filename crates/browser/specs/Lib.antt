@@ -1,4 +1,0 @@
-pub mod Wire
-pub mod Values
-pub mod Parts
-pub mod Halves
