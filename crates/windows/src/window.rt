@@ -19,6 +19,8 @@ use machine::Span;
 use machine::Told;
 use scripts::Script;
 
+mod same;
+
 // A window is of one site for ever. It has its page's script, what it is to be told of its own doing with the bytes
 // that go with it, and the words that wait for it.
 #[derive(Clone, Copy)]
