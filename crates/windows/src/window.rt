@@ -95,8 +95,8 @@ impl Window {
             Told::Silence => match self.queue.pop() {
                 Some(word) => {
                     let site = u32::from(word.from.number());
-                    self.process
-                        .turn(sites, Told::Heard { site }, word.text.as_slice())
+                    let told = Told::Heard { site };
+                    self.process.turn(sites, told, word.text.as_slice())
                 }
                 None => self.process.turn(sites, Told::Silence, &[]),
             },
