@@ -28,7 +28,7 @@ pub enum Act {
 }
 
 // What a script is told in its turn. The bytes that go with it are passed beside it.
-#[derive(Clone, Copy)]
+#[derive(Clone, Copy, PartialEq, Eq)]
 pub enum Told {
     Silence,
     Begun,

@@ -1,3 +1,4 @@
 pub mod Opening
 pub mod Queues
+pub mod Same
 pub mod Turns

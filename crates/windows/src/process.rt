@@ -4,6 +4,7 @@ ghost use Rattle.machine.specs.Limits.{part};
 ghost use Rattle.machine.specs.Script.{initial, doneIn};
 ghost use Rattle.scripts.specs.Scripts.{stepsOf};
 ghost use Rattle.pages.specs.Browser.{named};
+ghost use Rattle.std.specs.Orderings.{Decides};
 ghost use Rattle.windows.specs.Scripts.{toldOf, actBy, actIn, stateIn, InLimits};
 ghost use Rattle.windows.specs.Windows.{stateOf};
 use machine::Machine;
@@ -48,5 +49,15 @@ impl Process {
         let from = (span.from as usize).min(4096);
         let end = (from + span.len as usize).min(4096);
         &self.memory[from..end]
+    }
+
+    // Are both in the same state?
+    pub(crate) fn same(&self, other: &Process) -> bool
+        ensures { λ r. ⌜ Decides r (stateOf (now (self .entry)) ≡ stateOf (now (other .entry))) ⌝ }
+    {
+        if !self.machine.same(&other.machine) || !self.script.same(&other.script) {
+            return false;
+        }
+        self.memory == other.memory
     }
 }

@@ -19,6 +19,8 @@ use machine::Span;
 use machine::Told;
 use scripts::Script;
 
+mod same;
+
 // A window is of one site for ever. It has its page's script, what it is to be told of its own doing with the bytes
 // that go with it, and the words that wait for it.
 #[derive(Clone, Copy)]
@@ -93,8 +95,8 @@ impl Window {
             Told::Silence => match self.queue.pop() {
                 Some(word) => {
                     let site = u32::from(word.from.number());
-                    self.process
-                        .turn(sites, Told::Heard { site }, word.text.as_slice())
+                    let told = Told::Heard { site };
+                    self.process.turn(sites, told, word.text.as_slice())
                 }
                 None => self.process.turn(sites, Told::Silence, &[]),
             },

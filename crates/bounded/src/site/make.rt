@@ -27,6 +27,6 @@ impl SiteNumber {
     pub fn same(self, other: SiteNumber) -> bool
         ensures { λ r. ⌜ Decides r (numberOf self ≡ numberOf other) ⌝ }
     {
-        self.number == other.number
+        other.number == self.number
     }
 }

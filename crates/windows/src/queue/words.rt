@@ -3,9 +3,18 @@ ghost use mathlib.Core.Path.{_≡_};
 ghost use mathlib.Core.List.{[]};
 ghost use Rattle.pages.specs.Browser.{otherWords};
 ghost use Rattle.std.specs.Options.{mapped};
+ghost use Rattle.std.specs.Orderings.{Decides};
 ghost use Rattle.windows.specs.Queues.{wordOf, wordsOf, appended, oldest};
 use super::Queue;
 use super::Word;
+
+impl PartialEq<Word> for Word as SameWord {
+    ghost equals = { λ x y r. Decides r (wordOf x ≡ wordOf y) };
+
+    fn eq(&self, other: &Word) -> bool {
+        self.from.same(other.from) && self.text.same(&other.text)
+    }
+}
 
 impl Queue {
     // No words. The places are filled with one that is never told.
@@ -41,5 +50,14 @@ impl Queue {
         self.words.rotate_left(1);
         self.count -= 1;
         Some(word)
+    }
+
+    // Do the same words wait?
+    pub(crate) fn same(&self, other: &Queue) -> bool
+        ensures { λ r. ⌜ Decides r (wordsOf (now (self .entry)) ≡ wordsOf (now (other .entry))) ⌝ }
+    {
+        let a = &self.words[0..self.count];
+        let b = &other.words[0..other.count];
+        a == b
     }
 }
