@@ -7,15 +7,21 @@ use bounded::site::SiteNumber;
 use bounded::text::Text;
 use std::test::*;
 
+// What is there, or the test fails.
+macro_rules! some {
+    ($option:expr) => {{
+        let Some(value) = $option else {
+            return Err(Fail::new("there is none"));
+        };
+        value
+    }};
+}
+
 #[test]
 fn a_shorter_keep_hides_a_longer_one(rt: LibcRuntime) -> Result<(), Fail> {
     let mut stores = Stores::new(rt.alloc())?;
-    let Some(site) = SiteNumber::new(15) else {
-        return Err(Fail::new("no such site"));
-    };
-    let Some(other) = SiteNumber::new(14) else {
-        return Err(Fail::new("no such site"));
-    };
+    let site = some!(SiteNumber::new(15));
+    let other = some!(SiteNumber::new(14));
     check_eq(stores.look(site), b"")?;
     check_eq(stores.keep(site, b"a longer text"), true)?;
     check_eq(stores.keep(site, b"short"), true)?;
@@ -26,12 +32,8 @@ fn a_shorter_keep_hides_a_longer_one(rt: LibcRuntime) -> Result<(), Fail> {
 #[test]
 fn more_than_4096_bytes_are_refused(rt: LibcRuntime) -> Result<(), Fail> {
     let mut stores = Stores::new(rt.alloc())?;
-    let Some(site) = SiteNumber::new(3) else {
-        return Err(Fail::new("no such site"));
-    };
-    let Some(other) = SiteNumber::new(4) else {
-        return Err(Fail::new("no such site"));
-    };
+    let site = some!(SiteNumber::new(3));
+    let other = some!(SiteNumber::new(4));
     let most = vec![in rt.alloc(); 7; 4096]?;
     let more = vec![in rt.alloc(); 8; 4097]?;
     check_eq(stores.keep(site, most.as_slice()), true)?;
@@ -44,12 +46,8 @@ fn more_than_4096_bytes_are_refused(rt: LibcRuntime) -> Result<(), Fail> {
 fn one_host_with_two_ports_is_two_sites(rt: LibcRuntime) -> Result<(), Fail> {
     let host = b"shop.example";
     let mut table = Table::new();
-    let Some(first) = table.add(Site { host, port: 443 }) else {
-        return Err(Fail::new("refused"));
-    };
-    let Some(second) = table.add(Site { host, port: 8443 }) else {
-        return Err(Fail::new("refused"));
-    };
+    let first = some!(table.add(Site { host, port: 443 }));
+    let second = some!(table.add(Site { host, port: 8443 }));
     let found = table.site(second).ok_or("not there")?;
     check_eq(found.host, host)?;
     check_eq(found.port, 8443)?;
@@ -64,12 +62,8 @@ fn one_host_with_two_ports_is_two_sites(rt: LibcRuntime) -> Result<(), Fail> {
 fn no_token_is_not_the_empty_token() -> Result<(), Fail> {
     let none = Tokens::new();
     let mut tokens = Tokens::new();
-    let Some(site) = SiteNumber::new(2) else {
-        return Err(Fail::new("no such site"));
-    };
-    let Some(other) = SiteNumber::new(1) else {
-        return Err(Fail::new("no such site"));
-    };
+    let site = some!(SiteNumber::new(2));
+    let other = some!(SiteNumber::new(1));
     tokens.set(site, &Text::empty());
     check_eq(none.get(site).is_none(), true)?;
     check_eq(tokens.get(site).ok_or("no token")?, b"")?;
@@ -102,9 +96,7 @@ fn a_table_takes_16_sites_and_nothing_else() -> Result<(), Fail> {
         check_eq(table.add(bad).is_none(), true)?;
     }
     for n in 0..16u8 {
-        let Some(number) = table.add(good) else {
-            return Err(Fail::new("refused"));
-        };
+        let number = some!(table.add(good));
         check_eq(number.number(), n)?;
         check_eq(table.site(number).is_some(), true)?;
     }

@@ -56,8 +56,8 @@ impl Stores {
         ensures { λ r. ⌜ now r ≡ storesOf (now (self .entry)) (numberOf site) ⌝ }
     {
         let place = site.number() as usize;
-        let from = place * 4096;
-        &self.bytes[from..from + self.lens[place]]
+        let start = place * 4096;
+        &self.bytes[start..start + self.lens[place]]
     }
 
     // Do both keep the same for the site?

@@ -2,6 +2,7 @@
 ghost use mathlib.Core.Path.{_≡_};
 ghost use mathlib.Core.Bool.{true};
 ghost use mathlib.Core.List.{[]};
+ghost use Prim.Native.Nat.{_≤_};
 ghost use lib.ListN.{length};
 ghost use Rattle.std.specs.Options.{mapped, Cases};
 ghost use Rattle.addresses.specs.Address.{siteOk};
@@ -30,10 +31,12 @@ impl Table {
         }
     }
 
-    pub fn len(&self) -> usize
-        ensures { λ r. ⌜ r ≡ length (tableOf (now (self .entry))) ⌝ }
+    // How many sites there are: at most 16.
+    pub fn len(&self) -> u32
+        ensures is { λ r. ⌜ r ≡ length (tableOf (now (self .entry))) ⌝ }
+        ensures few { λ r. ⌜ r ≤ 16 ⌝ }
     {
-        self.len
+        self.len as u32
     }
 
     // The next number is the site's, if host and port are within their rules and there is room.
@@ -44,7 +47,7 @@ impl Table {
         if !is_site(site) {
             return None;
         }
-        let Some(number) = SiteNumber::new(self.len as u32) else {
+        let Some(number) = SiteNumber::new(self.len()) else {
             return None;
         };
         let Some(host) = Text::new(site.host) else {

@@ -1,12 +1,10 @@
-use mathlib.Core.Path.{_≡_, sym, ap, _∙_}
-use Prim.Native.Nat.{_<_, _≤_}
+use mathlib.Core.Path.{_≡_, sym, _∙_}
+use Prim.Native.Nat.{_<_}
 use native.Mathlib.Omega.{arith}
-use lib.ListN.{length, length-set}
+use lib.ListN.{length-set}
 use Rattle.bytes.proofs.Options.{none-some}
-use Rattle.storage.specs.Rows.{allSites}
-use Rattle.storage.specs.Tables.{rowOf, tableOf}
-use Rattle.storage.proofs.Rows.{length-rows, push-row, site-fits}
-use Rattle.storage.proofs.Adding.{room, all-added, added-is, numbered-is}
+use Rattle.storage.proofs.Rows.{site-fits}
+use Rattle.storage.proofs.Adding.{room, all-grown, grown-is, numbered-is}
 use Rattle.storage.proofs.table.Table.add.Needs as need
 
 -- a site's host always fits a row
@@ -15,22 +13,12 @@ returns-in-rest-new c = absurd (none-some (c .args .site .host .now) (c .in-rest
 
 pub ghost-self : need.ghost-self
 ghost-self c =
-    let t = c .args .self .now in
-    let fits : t .len ≤ length (t .rows) = omega arith in
-    let count = length-rows rowOf (t .rows) (t .len) fits in
-    let ok = sym (c .is-site .ensures) ∙ c .if-not-is-site .left in
-    let free : t .len < 16 = room (tableOf t) (c .args .site .host .now) _ (c .args .site .port) _ _ count ok (c .in-Some-new .ensures tt) (c .in-Some .ensures tt) in
-    let more = all-added (tableOf t) (c .args .site .host .now) _ (c .args .site .port) _ _ count ok (c .in-Some-new .ensures tt) (c .in-Some .ensures tt) (t .sites) in
-    (omega arith, (length-set _ _ _ ∙ t .all, (ap allSites (push-row rowOf (t .rows) (t .len) fits _ (omega arith)) ∙ more, tt)))
+    let free : c .args .self .now .len < 16 = room (c .args .self .now) (c .args .site .host .now) (c .in-Some-new .host) (c .args .site .port) _ _ _ (c .len .ensures .is) (c .is-site .ensures) (c .if-not-is-site .left) (c .in-Some-new .ensures tt) (c .in-Some .ensures tt) in
+    let grown = all-grown (c .args .self .now) (c .args .site .host .now) (c .in-Some-new .host) (c .args .site .port) _ _ _ (c .len .ensures .is) (c .is-site .ensures) (c .if-not-is-site .left) (c .in-Some-new .ensures tt) (c .in-Some .ensures tt) in
+    (omega arith, (length-set _ _ _ ∙ c .args .self .now .all, (grown, tt)))
 
 pub returns : need.returns
-returns c =
-    let t = c .args .self .now in
-    let fits : t .len ≤ length (t .rows) = omega arith in
-    let count = length-rows rowOf (t .rows) (t .len) fits in
-    let ok = sym (c .is-site .ensures) ∙ c .if-not-is-site .left in
-    let free : t .len < 16 = room (tableOf t) (c .args .site .host .now) _ (c .args .site .port) _ _ count ok (c .in-Some-new .ensures tt) (c .in-Some .ensures tt) in
-    record {
-      answer = numbered-is (tableOf t) (c .args .site .host .now) _ (c .args .site .port) _ _ count ok (c .in-Some-new .ensures tt) (c .in-Some .ensures tt);
-      after = push-row rowOf (t .rows) (t .len) fits _ (omega arith) ∙ added-is (tableOf t) (c .args .site .host .now) _ (c .args .site .port) _ _ count ok (c .in-Some-new .ensures tt) (c .in-Some .ensures tt);
-    }
+returns c = record {
+  answer = numbered-is (c .args .self .now) (c .args .site .host .now) (c .in-Some-new .host) (c .args .site .port) _ _ _ (c .len .ensures .is) (c .is-site .ensures) (c .if-not-is-site .left) (c .in-Some-new .ensures tt) (c .in-Some .ensures tt);
+  after = grown-is (c .args .self .now) (c .args .site .host .now) (c .in-Some-new .host) (c .args .site .port) _ _ _ (c .len .ensures .is) (c .is-site .ensures) (c .if-not-is-site .left) (c .in-Some-new .ensures tt) (c .in-Some .ensures tt);
+}
