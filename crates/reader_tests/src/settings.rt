@@ -3,6 +3,7 @@ use settings::Fault;
 use settings::Refusal;
 use settings::lines::TurnLine;
 use settings::read_settings;
+use settings::write::write_settings;
 use std::test::*;
 
 const TEXT: &[u8] =
@@ -136,4 +137,22 @@ fn many(rt: LibcRuntime) -> Result<(), Fail> {
     opens.truncate(16 * 16);
     opens.extend_from_slice(b"open https://a/\n")?;
     refused(opens.as_slice(), 2, 17)
+}
+
+// What is written names the sites first; a buffer that is too small gets nothing.
+#[test]
+fn written() -> Result<(), Fail> {
+    let Ok(s) = read_settings(
+        b"open https://b:1/x\nsite https://a:443/y\nopen https://b:1/\nturn 0\n7 times all\n",
+    ) else {
+        return Err(Fail::new("good settings are refused"));
+    };
+    let text =
+        b"site https://b:1/\nsite https://a/\nopen https://b:1/x\nopen https://b:1/\nturn 0\n7 times all\n";
+    let mut short = [b'.'; 89];
+    check(write_settings(&mut short, s).is_none())?;
+    check(short == [b'.'; 89])?;
+    let mut out = [b'.'; 90];
+    check_eq(write_settings(&mut out, s), Some(90))?;
+    check(out == *text)
 }
