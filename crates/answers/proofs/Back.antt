@@ -105,7 +105,7 @@ length-takes kind t a n fit =
     let f = known kind None t a in
     let ds = decimal n in
     cond-true (ltb 0 (length ds) && eqb (leading (has Digit) ds) (length ds)) (lengthFrom f (number (limit kind) 0 ds)) (Fault 7)
-      (and-from (ltb 0 (length ds)) (eqb (leading (has Digit) ds) (length ds)) (lt-ltb 0 (length ds) (decimal-some n small)) (eq-eqb _ _ (decimal-digits n small)))
+    (and-from (ltb 0 (length ds)) (eqb (leading (has Digit) ds) (length ds)) (lt-ltb 0 (length ds) (decimal-some n small)) (eq-eqb _ _ (decimal-digits n small)))
     ∙ ap (lengthFrom f) (number-decimal (limit kind) n fit small)
 
 body-then : (kind : Kind) (t : Option (List ℕ)) (a : Option Allows) (body : List ℕ) → length body ≤ limit kind → left (allowedNames (tokenNames t) a) (known kind None t a) (lengthLine body ++ body) ≡ Read (known kind (Some (length body)) t a, body)
@@ -128,5 +128,5 @@ answer-back kind a ok =
     let n = length (a .body) in
     ap (answerFrom kind) (status-back (a .code) (tokenLine (codes "set-cookie: ") (a .token) ++ rest1) (leb-true (a .code) 999 (p .0)))
     ∙ ap (λ o. readThen o (λ h. bodyOf (a .code) (h .0) (h .0 .length) (h .1)))
-        (token-then kind (a .token) rest1 (q .0) ∙ allowed-then kind (a .token) (a .allowed) rest2 (r .0) ∙ body-then kind (a .token) (a .allowed) (a .body) (leb-true n (limit kind) (r .1)))
+    (token-then kind (a .token) rest1 (q .0) ∙ allowed-then kind (a .token) (a .allowed) rest2 (r .0) ∙ body-then kind (a .token) (a .allowed) (a .body) (leb-true n (limit kind) (r .1)))
     ∙ cond-true (eqb n n) (Read a) (Fault 6) (eq-eqb n n refl)

@@ -16,7 +16,7 @@ digit-more : (n d v : ℕ) (ds : List ℕ) → d < 10 → n * 10 + d ≡ v → v
 digit-more n d v ds small e most =
     let same : n * 10 + (48 + d - 48) ≡ v = omega arith in
     cond-true (isDigit (48 + d) && leb (n * 10 + (48 + d - 48)) 999) (number 999 (n * 10 + (48 + d - 48)) ds) None
-      (and-from (isDigit (48 + d)) (leb (n * 10 + (48 + d - 48)) 999) (and-from (leb 48 (48 + d)) (leb (48 + d) 57) (le-leb 48 (48 + d) (omega arith)) (le-leb (48 + d) 57 (omega arith))) (le-leb (n * 10 + (48 + d - 48)) 999 (omega arith)))
+    (and-from (isDigit (48 + d)) (leb (n * 10 + (48 + d - 48)) 999) (and-from (leb 48 (48 + d)) (leb (48 + d) 57) (le-leb 48 (48 + d) (omega arith)) (le-leb (48 + d) 57 (omega arith))) (le-leb (n * 10 + (48 + d - 48)) 999 (omega arith)))
     ∙ ap (λ m. number 999 m ds) same
 
 pub three-back : (n : ℕ) → n ≤ 999 → number 999 0 (threeDigits n) ≡ Some n

@@ -3,12 +3,12 @@ ghost use mathlib.Core.Path.{_≡_};
 ghost use Rattle.addresses.specs.Views.{siteOf};
 ghost use Rattle.answers.specs.Seen.{allows, letsSee};
 ghost use Rattle.answers.specs.Views.{contentOf};
-use addresses::Site;
-use addresses::same_site;
 use crate::Allowed;
 use crate::Kind;
 use crate::Response;
 use crate::read_answer;
+use addresses::Site;
+use addresses::same_site;
 
 impl Response<'_> {
     // Does the answer allow the asking site to see it?

@@ -11,11 +11,11 @@ ghost use Rattle.lines.specs.Views.{lineText};
 ghost use Rattle.answers.specs.Answers.{readAnswer};
 ghost use Rattle.answers.specs.Views.{allowsBy, contentOf};
 ghost use Rattle.answers.specs.Written.{threeDigits, allowedLine, answerText, allowsFits, canWrite};
-use addresses::is_site;
 use crate::Allowed;
 use crate::Kind;
 use crate::Response;
 use crate::limit_of;
+use addresses::is_site;
 use lines::token_fits;
 use lines::written::Line;
 use lines::written::put_message;
@@ -24,7 +24,11 @@ fn three_digits(n: u16) -> [u8; 3]
     requires { ⌜ n ≤ 999 ⌝ }
     ensures { λ r. ⌜ r ≡ threeDigits n ⌝ }
 {
-    [48 + (n / 100) as u8, 48 + (n / 10 % 10) as u8, 48 + (n % 10) as u8]
+    [
+        48 + (n / 100) as u8,
+        48 + (n / 10 % 10) as u8,
+        48 + (n % 10) as u8,
+    ]
 }
 
 fn allowed_line(allowed: Option<Allowed<'_>>) -> Line<'_>
@@ -52,7 +56,10 @@ fn allowed_fits(allowed: Option<Allowed<'_>>) -> bool
 fn can_write(kind: Kind, a: Response<'_>) -> bool
     ensures { λ r. ⌜ r ≡ canWrite kind (contentOf (a .entry)) ⌝ }
 {
-    a.code <= 999 && token_fits(a.token) && allowed_fits(a.allowed) && a.body.len() <= limit_of(kind) as usize
+    a.code <= 999
+        && token_fits(a.token)
+        && allowed_fits(a.allowed)
+        && a.body.len() <= limit_of(kind) as usize
 }
 
 // Writes an answer at the front of the buffer, if each part is within its rules and all fits; else nothing.
@@ -69,5 +76,13 @@ pub fn write_answer(out: &mut [u8], kind: Kind, a: Response<'_>) -> Option<usize
     let token = Line::of_token(b"set-cookie: ", a.token);
     let allowed = allowed_line(a.allowed);
     let length = Line::of_number(b"content-length: ", a.body.len() as u64, b"\r\n\r\n");
-    put_message(out, &status, &token, &allowed, &Line::none(), &length, a.body)
+    put_message(
+        out,
+        &status,
+        &token,
+        &allowed,
+        &Line::none(),
+        &length,
+        a.body,
+    )
 }

@@ -70,8 +70,8 @@ trim-visible : (v : List ℕ) → leading (has Visible) v ≡ length v → trim 
 trim-visible v h =
     let first : leading (has Blank) v ≡ 0 = none-front (has Blank) v (λ l. visible-blank (getD v 0 0) (all-at (has Visible) v 0 h l)) in
     let last : ending (has Blank) v ≡ 0 = none-front (has Blank) (reverse v) (λ l.
-      let k : 0 < length v = omega (arith, length-reverse v) in
-      ap (has Blank) (getD-reverse v 0 0 k) ∙ visible-blank (getD v (length v - 1 - 0) 0) (all-at (has Visible) v (length v - 1 - 0) h (omega arith))) in
+    let k : 0 < length v = omega (arith, length-reverse v) in
+    ap (has Blank) (getD-reverse v 0 0 k) ∙ visible-blank (getD v (length v - 1 - 0) 0) (all-at (has Visible) v (length v - 1 - 0) h (omega arith))) in
     let one : 1 + leading (has Blank) v ≡ 1 = omega arith in
     let whole : length v - ending (has Blank) v ≡ length v = omega arith in
     ap (λ n. trimEnd (drop n (32 ∷ v))) one ∙ ap (λ n. take n v) whole ∙ take-all (length v) v (omega arith)

@@ -31,7 +31,7 @@ front-written : (t out : List ℕ) (n : ℕ) → Some n ≡ count t out → take
 front-written t out n e =
     ⊎-elim
     (λ y. let size : n ≡ length t = some-same n (length t) (e ∙ cond-true (leb (length t) (length out)) (Some (length t)) None y) in
-      (λ i. take n (cond-true (leb (length t) (length out)) (t ++ drop (length t) out) out y i)) ∙ take-at t (drop (length t) out) n (sym size))
+    (λ i. take n (cond-true (leb (length t) (length out)) (t ++ drop (length t) out) out y i)) ∙ take-at t (drop (length t) out) n (sym size))
     (λ y. absurd (none-some n (sym (e ∙ cond-false (leb (length t) (length out)) (Some (length t)) None y))))
     (cases-bool (leb (length t) (length out)))
 

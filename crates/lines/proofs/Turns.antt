@@ -45,10 +45,10 @@ start taking f s = let e : length s ≡ length s - 0 = omega arith in ap (λ n. 
 field-name : (l name v : List ℕ) → _≡_ {A = Option (List ℕ × List ℕ)} (Some (name, v)) (fieldOf l) → name ≡ front (has Token) l
 field-name l name v e = go (eqb (length (front (has Token) l)) 0) (after (codes ":") (past (has Token) l)) e
   where
-  go : (b : Bool) (o : Option (List ℕ)) → _≡_ {A = Option (List ℕ × List ℕ)} (Some (name, v)) (cond b None (andThen o (λ w. Some (front (has Token) l, trim w)))) → name ≡ front (has Token) l
-  go true o q = let z : _≡_ {A = ℕ} 0 1 = cc in absurd (omega arith)
-  go false None q = let z : _≡_ {A = ℕ} 0 1 = cc in absurd (omega arith)
-  go false (Some w) q = let p : _≡_ {A = List ℕ × List ℕ} (name, v) (front (has Token) l, trim w) = cc in ap (λ x. x .0) p
+    go : (b : Bool) (o : Option (List ℕ)) → _≡_ {A = Option (List ℕ × List ℕ)} (Some (name, v)) (cond b None (andThen o (λ w. Some (front (has Token) l, trim w)))) → name ≡ front (has Token) l
+    go true o q = let z : _≡_ {A = ℕ} 0 1 = cc in absurd (omega arith)
+    go false None q = let z : _≡_ {A = ℕ} 0 1 = cc in absurd (omega arith)
+    go false (Some w) q = let p : _≡_ {A = List ℕ × List ℕ} (name, v) (front (has Token) l, trim w) = cc in ap (λ x. x .0) p
 
 -- the names of k lines, and of those after them in rest
 abbrev pub Named : ℕ → List ℕ → List ℕ → Type 0

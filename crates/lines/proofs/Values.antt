@@ -59,10 +59,10 @@ module _ (host : List ℕ) (port : ℕ) (ok : siteOk host port ≡ true) where
       let names = host-names 8 host host-ok in
       let stops : leading (has Name) (portText port) ≡ 0 = sym (ap (leading (has Name)) (append-nil (portText port))) ∙ port-stops port [] port-some port-most nothing-ends in
       ap endFrom (
-        (λ i. hostThen (front-append (has Name) host (portText port) names stops i) (past-append (has Name) host (portText port) names stops i))
-        ∙ ap (hostThen host) (sym (append-nil (portText port)))
-        ∙ cond-true _ _ _ host-ok
-        ∙ ap (λ o. andThen o (λ p. Some (host, p .0, p .1))) (port-back port [] port-some port-most nothing-ends))
+      (λ i. hostThen (front-append (has Name) host (portText port) names stops i) (past-append (has Name) host (portText port) names stops i))
+      ∙ ap (hostThen host) (sym (append-nil (portText port)))
+      ∙ cond-true _ _ _ host-ok
+      ∙ ap (λ o. andThen o (λ p. Some (host, p .0, p .1))) (port-back port [] port-some port-most nothing-ends))
 
   -- a whole site
   pub site-back : readSite (siteText host port) ≡ Some (host, port)

@@ -29,7 +29,14 @@ pub trait Fields<'a>: Sized + Copy {
 }
 
 // One field more; the first k lines of s are before it, and none of them has a name that is not marked.
-fn take_field<'a, F: Fields<'a>>(fields: &mut F, marked: bool, s: &'a [u8], k: usize, name: &'a [u8], value: &'a [u8]) -> Result<(), MessageFault>
+fn take_field<'a, F: Fields<'a>>(
+    fields: &mut F,
+    marked: bool,
+    s: &'a [u8],
+    k: usize,
+    name: &'a [u8],
+    value: &'a [u8],
+) -> Result<(), MessageFault>
     requires { ⌜ (marked ≡ false → among (now name) (namesOf k (now s)) ≡ false) ⌝ }
     ensures { λ r. ⌜ answerOf (λ _. F·Fields .known (now (fields .exit))) r ≡ fieldTaken (F·Fields .taking) (namesOf k (now (s .entry))) (F·Fields .known (now (fields .entry))) (now (name .entry), now (value .entry)) ⌝ }
 {

@@ -7,6 +7,7 @@ ghost use Rattle.std.specs.shelf.Lists.{leading};
 ghost use Rattle.bytes.specs.Classes.{has};
 ghost use Rattle.bytes.specs.declared.Class.the-variants.{Token};
 ghost use Rattle.lines.specs.Lines.{lineThen, trimEnd, trim, fieldOf, small, sameName, among, slot, namesOf, tokenOk, tokenFits};
+
 pub mod heads;
 pub mod written;
 

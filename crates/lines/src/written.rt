@@ -25,19 +25,34 @@ impl<'a> Line<'a> {
     pub fn none() -> Line<'a>
         ensures { λ r. ⌜ lineText r ≡ [] ⌝ }
     {
-        Line { start: b"", value: b"", digits: SmallText::empty(), end: b"" }
+        Line {
+            start: b"",
+            value: b"",
+            digits: SmallText::empty(),
+            end: b"",
+        }
     }
 
     pub fn of(start: &'a [u8], value: &'a [u8], end: &'a [u8]) -> Line<'a>
         ensures { λ r. ⌜ lineText r ≡ now (start .entry) ++ (now (value .entry) ++ now (end .entry)) ⌝ }
     {
-        Line { start, value, digits: SmallText::empty(), end }
+        Line {
+            start,
+            value,
+            digits: SmallText::empty(),
+            end,
+        }
     }
 
     pub fn of_number(start: &'a [u8], n: u64, end: &'a [u8]) -> Line<'a>
         ensures { λ r. ⌜ lineText r ≡ now (start .entry) ++ (decimal n ++ now (end .entry)) ⌝ }
     {
-        Line { start, value: b"", digits: SmallText::decimal(n), end }
+        Line {
+            start,
+            value: b"",
+            digits: SmallText::decimal(n),
+            end,
+        }
     }
 
     // The line of a token, if there is one.
@@ -54,12 +69,25 @@ impl<'a> Line<'a> {
     pub fn of_site(start: &'a [u8], site: Site<'a>) -> Line<'a>
         ensures { λ r. ⌜ lineText r ≡ now (start .entry) ++ ((now (site .entry .host) ++ portText (site .entry .port)) ++ crlf) ⌝ }
     {
-        Line { start, value: site.host, digits: port_text(site.port), end: b"\r\n" }
+        Line {
+            start,
+            value: site.host,
+            digits: port_text(site.port),
+            end: b"\r\n",
+        }
     }
 }
 
 // Writes a message at the front of the buffer, if it fits; else nothing.
-pub fn put_message<'a>(out: &mut [u8], first: &'a Line<'a>, a: &'a Line<'a>, b: &'a Line<'a>, c: &'a Line<'a>, last: &'a Line<'a>, body: &'a [u8]) -> Option<usize>
+pub fn put_message<'a>(
+    out: &mut [u8],
+    first: &'a Line<'a>,
+    a: &'a Line<'a>,
+    b: &'a Line<'a>,
+    c: &'a Line<'a>,
+    last: &'a Line<'a>,
+    body: &'a [u8],
+) -> Option<usize>
     ensures answer { λ r. ⌜ r ≡ count (lineText (now (first .entry)) ++ (lineText (now (a .entry)) ++ (lineText (now (b .entry)) ++ (lineText (now (c .entry)) ++ (lineText (now (last .entry)) ++ now (body .entry)))))) (now (out .entry)) ⌝ }
     ensures after { λ _. ⌜ now (out .exit) ≡ written (lineText (now (first .entry)) ++ (lineText (now (a .entry)) ++ (lineText (now (b .entry)) ++ (lineText (now (c .entry)) ++ (lineText (now (last .entry)) ++ now (body .entry)))))) (now (out .entry)) ⌝ }
 {

@@ -11,10 +11,10 @@ ghost use Rattle.lines.specs.Views.{lineText};
 ghost use Rattle.requests.specs.Requests.{readRequest};
 ghost use Rattle.requests.specs.Views.{askingOf};
 ghost use Rattle.requests.specs.Written.{originLine, requestText, originFits, canWrite};
+use crate::Request;
 use addresses::Site;
 use addresses::is_path;
 use addresses::is_site;
-use crate::Request;
 use lines::token_fits;
 use lines::written::Line;
 use lines::written::put_message;
@@ -40,7 +40,11 @@ fn origin_fits(origin: Option<Site<'_>>) -> bool
 fn can_write(q: Request<'_>) -> bool
     ensures { λ r. ⌜ r ≡ canWrite (askingOf (q .entry)) ⌝ }
 {
-    is_site(q.site) && is_path(q.path) && origin_fits(q.origin) && token_fits(q.token) && q.body.len() <= 1024
+    is_site(q.site)
+        && is_path(q.path)
+        && origin_fits(q.origin)
+        && token_fits(q.token)
+        && q.body.len() <= 1024
 }
 
 // Writes a request at the front of the buffer, if each part is within its rules and all fits; else nothing.

@@ -24,5 +24,6 @@ found v n h e = let z : n - 0 ≡ length v - ending (has Blank) v = omega arith 
 pub returns : need.returns
 returns c =
     elim (c .loop-n-test .came) [
-      then-loop-n-test·else-is-of w ↦ found _ _ (c .loop-n .inv .1) (ending-take-no (has Blank) (c .args .v .now) (c .loop-n .n) 0 (w .loop-n-test .taken) (c .loop-n .inv .0) (sym (w .if-is-of .ensures tt)))
-    | else-loop-n-test w ↦ found _ _ (c .loop-n .inv .1) (let z : c .loop-n .n ≡ 0 = omega arith in ap (λ n. ending (has Blank) (take n (c .args .v .now))) z) ]
+      | then-loop-n-test·else-is-of w ↦ found _ _ (c .loop-n .inv .1) (ending-take-no (has Blank) (c .args .v .now) (c .loop-n .n) 0 (w .loop-n-test .taken) (c .loop-n .inv .0) (sym (w .if-is-of .ensures tt)))
+      | else-loop-n-test w ↦ found _ _ (c .loop-n .inv .1) (let z : c .loop-n .n ≡ 0 = omega arith in ap (λ n. ending (has Blank) (take n (c .args .v .now))) z)
+    ]

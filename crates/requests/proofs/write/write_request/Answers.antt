@@ -18,7 +18,7 @@ returns c =
     let text = requestText asking in
     let out = c .args .out .now in
     let e : lineText (c .of-first .result) ++ (lineText (c .of-site-host .result) ++ (lineText (c .origin-line-origin .result) ++ (lineText (c .of-token-token .result) ++ (lineText (c .of-number-length .result) ++ body)))) ≡ text =
-        λ i. c .of-first .ensures i ++ (c .of-site-host .ensures i ++ (c .origin-line-origin .ensures i ++ (c .of-token-token .ensures i ++ (c .of-number-length .ensures i ++ body)))) in
+    λ i. c .of-first .ensures i ++ (c .of-site-host .ensures i ++ (c .origin-line-origin .ensures i ++ (c .of-token-token .ensures i ++ (c .of-number-length .ensures i ++ body)))) in
     let answer : c .put-message .result ≡ count text out = c .put-message .ensures .answer ∙ ap (λ t. count t out) e in
     let after : c .put-message .last .out ≡ written text out = c .put-message .ensures .after ∙ ap (λ t. written t out) e in
     let can = sym (c .if-not-can-write .ensures tt) in
