@@ -27,7 +27,7 @@ use Rattle.lines.specs.Lines.{crlf, fieldText, among, tokenOk, tokenFits, token
 use Rattle.lines.proofs.Back.{field-then, fields-end}
 use Rattle.lines.proofs.Values.{decimal-visible, host-visible, host-back, site-visible, site-back}
 use Rattle.requests.specs.Requests.{Known, unknown, orUnreadable, readable, hostField, originField, lengthFrom, taking, Asking, bodyOf, pathThen, readRequest}
-use Rattle.requests.specs.Written.{hostLine, originLine, requestText, originFits, canWrite, RequestReadsBack}
+use Rattle.requests.specs.Written.{hostLine, originLine, requestText, originFits, canWrite}
 
 abbrev Site : Type 0
 Site = List ℕ × ℕ
@@ -101,7 +101,7 @@ path-visible path ok =
     let d = and-parts (eqb (getD path 0 0) 47) (eqb (leading (has Visible) path) (length path)) (b .1) in
     eqb-true (leading (has Visible) path) (length path) (d .1)
 
-pub request-back : RequestReadsBack
+pub request-back : (q : Asking) → canWrite q ≡ true → readRequest (requestText q) ≡ Read q
 request-back q ok =
     let a = and-parts (siteOk (q .site .0) (q .site .1)) (pathOk (q .path) && (originFits (q .origin) && (tokenFits (q .token) && leb (length (q .body)) 1024))) ok in
     let b = and-parts (pathOk (q .path)) (originFits (q .origin) && (tokenFits (q .token) && leb (length (q .body)) 1024)) (a .1) in
