@@ -29,7 +29,7 @@ use Rattle.lines.proofs.Values.{decimal-digits, decimal-visible, site-visible, 
 use Rattle.answers.specs.declared.Kind.{Kind}
 use Rattle.answers.specs.declared.Kind.the-variants.{Asked, Page}
 use Rattle.answers.specs.Answers.{limit, Allows, All, Only, Known, unknown, lengthField, lengthFrom, tokenField, allowsOf, allowedField, taking, codeThen, statusThen, Content, bodyOf, answerFrom, readAnswer}
-use Rattle.answers.specs.Written.{threeDigits, allowsText, allowedLine, answerText, allowsFits, canWrite, AnswerReadsBack}
+use Rattle.answers.specs.Written.{threeDigits, allowsText, allowedLine, answerText, allowsFits, canWrite}
 use Rattle.answers.proofs.Digits.{three-back}
 
 -- the status line
@@ -118,7 +118,7 @@ body-then kind t a body fit =
     ∙ field-then (codes "content-length") (decimal n) refl refl (decimal-visible n small) taking names (known kind None t a) (known kind (Some n) t a) (crlf ++ body) (length-takes kind t a n fit) (length-new t a)
     ∙ fields-end taking (names ++ (codes "content-length" ∷ [])) (known kind (Some n) t a) body
 
-pub answer-back : AnswerReadsBack
+pub answer-back : (kind : Kind) (a : Content) → canWrite kind a ≡ true → readAnswer kind (answerText a) ≡ Read a
 answer-back kind a ok =
     let p = and-parts (leb (a .code) 999) (tokenFits (a .token) && (allowsFits (a .allowed) && leb (length (a .body)) (limit kind))) ok in
     let q = and-parts (tokenFits (a .token)) (allowsFits (a .allowed) && leb (length (a .body)) (limit kind)) (p .1) in

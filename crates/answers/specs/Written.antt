@@ -1,5 +1,4 @@
--- Answers as they are written, and that they are read back. Assumes nothing.
-use mathlib.Core.Path.{_≡_}
+-- Answers as they are written. Assumes nothing.
 use mathlib.Core.Bool.{Bool, true, _&&_}
 use mathlib.Core.List.{List, [], _∷_, _++_}
 use Prim.Native.Nat.{ℕ, _+_, _/_, _%_}
@@ -8,12 +7,11 @@ use lib.Dec.{leb}
 use lib.ListN.{length}
 use Rattle.std.specs.declared.option.Option.{Option}
 use Rattle.std.specs.declared.option.Option.the-variants.{Some, None}
-use Rattle.bytes.specs.Answers.{Read}
 use Rattle.addresses.specs.Address.{siteOk}
 use Rattle.addresses.specs.Written.{siteText}
 use Rattle.lines.specs.Lines.{crlf, fieldText, tokenFits, tokenLine, lengthLine}
 use Rattle.answers.specs.declared.Kind.{Kind}
-use Rattle.answers.specs.Answers.{limit, Allows, All, Only, Content, readAnswer}
+use Rattle.answers.specs.Answers.{limit, Allows, All, Only, Content}
 
 -- a number below 1,000 in three digits
 abbrev pub threeDigits : ℕ → List ℕ
@@ -42,7 +40,3 @@ allowsFits (Some (Only host port)) = siteOk host port
 -- each part within its rules, and the body within its limit
 abbrev pub canWrite : Kind → Content → Bool
 canWrite kind a = leb (a .code) 999 && (tokenFits (a .token) && (allowsFits (a .allowed) && leb (length (a .body)) (limit kind)))
-
--- an answer that can be written is read back
-abbrev pub AnswerReadsBack : Type 0
-AnswerReadsBack = (kind : Kind) (a : Content) → canWrite kind a ≡ true → readAnswer kind (answerText a) ≡ Read a

@@ -4,6 +4,7 @@ ghost use Rattle.std.specs.Options.{mapped};
 ghost use Rattle.lines.specs.Views.{answerOf};
 ghost use Rattle.answers.specs.Answers.{limit, Known, lengthField, tokenField, allowsOf, allowedField, taking, codeThen, statusThen, readAnswer};
 ghost use Rattle.answers.specs.Views.{allowsBy, knownOf, contentOf};
+
 pub mod seen;
 pub mod within;
 pub mod write;
@@ -167,7 +168,12 @@ pub fn read_answer<'a>(kind: Kind, s: &'a [u8]) -> Result<Response<'a>, MessageF
     let Some((code, rest)) = status_then(s) else {
         return Err(MessageFault::Unreadable);
     };
-    let none = Heads { kind, length: None, token: None, allowed: None };
+    let none = Heads {
+        kind,
+        length: None,
+        token: None,
+        allowed: None,
+    };
     let (h, body) = match read_fields(none, rest) {
         Ok(p) => p,
         Err(e) => return Err(e),
@@ -178,5 +184,10 @@ pub fn read_answer<'a>(kind: Kind, s: &'a [u8]) -> Result<Response<'a>, MessageF
     if body.len() != n as usize {
         return Err(MessageFault::Unreadable);
     }
-    Ok(Response { code, token: h.token, allowed: h.allowed, body })
+    Ok(Response {
+        code,
+        token: h.token,
+        allowed: h.allowed,
+        body,
+    })
 }

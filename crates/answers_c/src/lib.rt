@@ -35,7 +35,11 @@ pub extern "C" fn answer_summary(s: &[u8]) -> u64
     ensures { λ r. ⌜ r ≡ summary (readAnswer Page (now (s .entry))) ⌝ }
 {
     match read_answer(Kind::Page, s) {
-        Ok(a) => 16 + a.code as u64 * 16777216 * 1024 + (a.body.len() % 65536) as u64 * 1024 + token_number(a.token) * 4 + allowed_number(a.allowed),
+        Ok(a) => 16
+            + a.code as u64 * 16777216 * 1024
+            + (a.body.len() % 65536) as u64 * 1024
+            + token_number(a.token) * 4
+            + allowed_number(a.allowed),
         Err(MessageFault::Unreadable) => 6,
         Err(MessageFault::Value) => 7,
     }

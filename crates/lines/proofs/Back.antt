@@ -55,7 +55,7 @@ visible-text b h = grind (arith, tells)
 visible-blank : (b : ℕ) → has Visible b ≡ true → has Blank b ≡ false
 visible-blank b h = grind (arith, tells)
 
-token-text : (b : ℕ) → has Token b ≡ true → has Text b ≡ true
+pub token-text : (b : ℕ) → has Token b ≡ true → has Text b ≡ true
 token-text b h = grind (arith, tells)
 
 pub digit-visible : (b : ℕ) → isDigit b ≡ true → has Visible b ≡ true

@@ -3,6 +3,7 @@ pub mod Named
 pub mod Marks
 pub mod Turns
 pub mod Enough
+pub mod Scans
 pub mod Back
 pub mod Values
 pub mod Pieces

@@ -10,7 +10,7 @@ ghost use Rattle.lines.specs.Views.{answerOf, withRest};
 use crate::MessageFault;
 use crate::field_of;
 use crate::is_named;
-use crate::line_then;
+use crate::named_line;
 use crate::slot_of;
 
 // What the fields of a message say, taken one after another.
@@ -29,7 +29,14 @@ pub trait Fields<'a>: Sized + Copy {
 }
 
 // One field more; the first k lines of s are before it, and none of them has a name that is not marked.
-fn take_field<'a, F: Fields<'a>>(fields: &mut F, marked: bool, s: &'a [u8], k: usize, name: &'a [u8], value: &'a [u8]) -> Result<(), MessageFault>
+fn take_field<'a, F: Fields<'a>>(
+    fields: &mut F,
+    marked: bool,
+    s: &'a [u8],
+    k: usize,
+    name: &'a [u8],
+    value: &'a [u8],
+) -> Result<(), MessageFault>
     requires { ⌜ (marked ≡ false → among (now name) (namesOf k (now s)) ≡ false) ⌝ }
     ensures { λ r. ⌜ answerOf (λ _. F·Fields .known (now (fields .exit))) r ≡ fieldTaken (F·Fields .taking) (namesOf k (now (s .entry))) (F·Fields .known (now (fields .entry))) (now (name .entry), now (value .entry)) ⌝ }
 {
@@ -53,13 +60,13 @@ pub fn read_fields<'a, F: Fields<'a>>(none: F, s: &'a [u8]) -> Result<(F, &'a [u
     let mut rest = s;
     let mut marks = [false; 128];
     for k in 0..s.len() {
-        let Some((line, next)) = line_then(rest) else {
+        let Some((n, line, next)) = named_line(rest) else {
             return Err(MessageFault::Unreadable);
         };
         if line.is_empty() {
             return Ok((known, next));
         }
-        let Some((name, value)) = field_of(line) else {
+        let Some((name, value)) = field_of(n, line) else {
             return Err(MessageFault::Unreadable);
         };
         let slot = slot_of(name);

@@ -1,8 +1,13 @@
 // The lines of a message, and the fields that they hold.
 ghost use mathlib.Core.Path.{_≡_};
-ghost use Prim.Native.Nat.{_<_};
-ghost use Rattle.std.specs.Options.{mapped};
+ghost use Prim.Native.Nat.{_<_, _≤_};
+ghost use lib.ListN.{length};
+ghost use Rattle.std.specs.Options.{mapped, Cases as BySome};
+ghost use Rattle.std.specs.shelf.Lists.{leading};
+ghost use Rattle.bytes.specs.Classes.{has};
+ghost use Rattle.bytes.specs.declared.Class.the-variants.{Token};
 ghost use Rattle.lines.specs.Lines.{lineThen, trimEnd, trim, fieldOf, small, sameName, among, slot, namesOf, tokenOk, tokenFits};
+
 pub mod heads;
 pub mod written;
 
@@ -49,11 +54,28 @@ fn trim_blank(v: &[u8]) -> &[u8]
     trim_end(rest)
 }
 
-// The name and the value that a line holds.
-fn field_of(line: &[u8]) -> Option<(&[u8], &[u8])>
+// How many bytes at the front are of a name, the line without its end, and what follows. A name's bytes are bytes of a
+// line, so they are looked at once.
+fn named_line(s: &[u8]) -> Option<(usize, &[u8], &[u8])>
+    ensures is { λ r. ⌜ mapped (λ p. (p .1 .now, p .2 .now)) r ≡ lineThen (now (s .entry)) ⌝ }
+    ensures name { λ r. ⌜ BySome r (Unit {0}) (λ p. (p .0 ≡ leading (has Token) (p .1 .now)) × (p .0 ≤ length (p .1 .now))) ⌝ }
+{
+    let n = span(Class::Token, s);
+    let (_, after) = s.split_at(n);
+    let m = span(Class::Text, after);
+    let (line, end) = s.split_at(n + m);
+    let Some(rest) = strip(end, b"\r\n") else {
+        return None;
+    };
+    Some((n, line, rest))
+}
+
+// The name and the value that a line holds, which begins with n bytes of a name.
+fn field_of(n: usize, line: &[u8]) -> Option<(&[u8], &[u8])>
+    requires { ⌜ n ≡ leading (has Token) (now line) ⌝ ∗ ⌜ n ≤ length (now line) ⌝ }
     ensures { λ r. ⌜ mapped (λ p. (p .0 .now, p .1 .now)) r ≡ fieldOf (now (line .entry)) ⌝ }
 {
-    let (name, end) = split(Class::Token, line);
+    let (name, end) = line.split_at(n);
     if name.is_empty() {
         return None;
     }

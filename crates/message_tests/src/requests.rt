@@ -10,14 +10,62 @@ const NONE: &[u8] = b"(none)";
 
 // Text; host and port that are asked, path, host of the asking page, token, body.
 const GOOD: [(&[u8], &[u8], u16, &[u8], &[u8], &[u8], &[u8]); 6] = [
-    (b"POST / HTTP/1.1\r\nhost: a.example\r\ncontent-length: 0\r\n\r\n", b"a.example", 443, b"/", NONE, NONE, b""),
-    (b"POST /where?q=now HTTP/1.1\r\nHost: www.example.org:8001\r\nContent-Length: 2\r\n\r\n\r\n", b"www.example.org", 8001, b"/where?q=now", NONE, NONE, b"\r\n"),
+    (
+        b"POST / HTTP/1.1\r\nhost: a.example\r\ncontent-length: 0\r\n\r\n",
+        b"a.example",
+        443,
+        b"/",
+        NONE,
+        NONE,
+        b"",
+    ),
+    (
+        b"POST /where?q=now HTTP/1.1\r\nHost: www.example.org:8001\r\nContent-Length: 2\r\n\r\n\r\n",
+        b"www.example.org",
+        8001,
+        b"/where?q=now",
+        NONE,
+        NONE,
+        b"\r\n",
+    ),
     // tokens of RFC 6265, a site of RFC 6454
-    (b"POST /a HTTP/1.1\r\nhost: a.example\r\nCookie: SID=31d4d96e407aad42\r\ncontent-length: 1\r\n\r\nx", b"a.example", 443, b"/a", NONE, b"SID=31d4d96e407aad42", b"x"),
-    (b"POST /a HTTP/1.1\r\nhost: a.example\r\nOrigin: https://example.com\r\ncookie: \r\ncontent-length: 0\r\n\r\n", b"a.example", 443, b"/a", b"example.com", b"", b""),
+    (
+        b"POST /a HTTP/1.1\r\nhost: a.example\r\nCookie: SID=31d4d96e407aad42\r\ncontent-length: 1\r\n\r\nx",
+        b"a.example",
+        443,
+        b"/a",
+        NONE,
+        b"SID=31d4d96e407aad42",
+        b"x",
+    ),
+    (
+        b"POST /a HTTP/1.1\r\nhost: a.example\r\nOrigin: https://example.com\r\ncookie: \r\ncontent-length: 0\r\n\r\n",
+        b"a.example",
+        443,
+        b"/a",
+        b"example.com",
+        b"",
+        b"",
+    ),
     // in another order, with a field that says nothing
-    (b"POST /a HTTP/1.1\r\ncontent-length: 0\r\nuser-agent: x y\r\norigin: https://b.example:1\r\nhost: a.example:443\r\n\r\n", b"a.example", 443, b"/a", b"b.example", NONE, b""),
-    (b"POST /~! HTTP/1.1\r\nhost:a:65535\r\ncontent-length:0\r\n\r\n", b"a", 65535, b"/~!", NONE, NONE, b""),
+    (
+        b"POST /a HTTP/1.1\r\ncontent-length: 0\r\nuser-agent: x y\r\norigin: https://b.example:1\r\nhost: a.example:443\r\n\r\n",
+        b"a.example",
+        443,
+        b"/a",
+        b"b.example",
+        NONE,
+        b"",
+    ),
+    (
+        b"POST /~! HTTP/1.1\r\nhost:a:65535\r\ncontent-length:0\r\n\r\n",
+        b"a",
+        65535,
+        b"/~!",
+        NONE,
+        NONE,
+        b"",
+    ),
 ];
 
 #[test]
@@ -29,7 +77,15 @@ fn good() -> Result<(), Fail> {
         check(q.site.host == host)?;
         check(q.site.port == port)?;
         check(q.path == path)?;
-        check(q.origin.unwrap_or(Site { host: NONE, port: 0 }).host == origin)?;
+        check(
+            q.origin
+                .unwrap_or(Site {
+                    host: NONE,
+                    port: 0,
+                })
+                .host
+                == origin,
+        )?;
         check(q.token.unwrap_or(NONE) == token)?;
         check(q.body == body)?;
     }
@@ -88,8 +144,21 @@ fn bad() -> Result<(), Fail> {
 
 #[test]
 fn written() -> Result<(), Fail> {
-    let text: &[u8] = b"POST /p HTTP/1.1\r\nhost: b.example:8443\r\norigin: https://a.example\r\ncookie: t\r\ncontent-length: 2\r\n\r\nhi";
-    let q = Request { site: Site { host: b"b.example", port: 8443 }, path: b"/p", origin: Some(Site { host: b"a.example", port: 443 }), token: Some(b"t"), body: b"hi" };
+    let text: &[u8] =
+        b"POST /p HTTP/1.1\r\nhost: b.example:8443\r\norigin: https://a.example\r\ncookie: t\r\ncontent-length: 2\r\n\r\nhi";
+    let q = Request {
+        site: Site {
+            host: b"b.example",
+            port: 8443,
+        },
+        path: b"/p",
+        origin: Some(Site {
+            host: b"a.example",
+            port: 443,
+        }),
+        token: Some(b"t"),
+        body: b"hi",
+    };
     let mut out = [b'.'; 200];
     let n = text.len();
     check(n < 200)?;
@@ -104,7 +173,16 @@ fn written() -> Result<(), Fail> {
 #[test]
 fn opened() -> Result<(), Fail> {
     let text: &[u8] = b"POST / HTTP/1.1\r\nhost: a.example\r\ncontent-length: 0\r\n\r\n";
-    let q = Request { site: Site { host: b"a.example", port: 443 }, path: b"/", origin: None, token: None, body: b"" };
+    let q = Request {
+        site: Site {
+            host: b"a.example",
+            port: 443,
+        },
+        path: b"/",
+        origin: None,
+        token: None,
+        body: b"",
+    };
     let mut out = [0u8; 200];
     let n = text.len();
     check(n < 200)?;
@@ -114,9 +192,25 @@ fn opened() -> Result<(), Fail> {
 
 // Is a request with these parts not written?
 fn is_unwritten<'a>(path: &'a [u8], origin: &'a [u8], token: &'a [u8], body: &'a [u8]) -> bool {
-    let site = Site { host: b"a", port: 1 };
+    let site = Site {
+        host: b"a",
+        port: 1,
+    };
     let mut out = [0u8; 1200];
-    write_request(&mut out, Request { site, path, origin: Some(Site { host: origin, port: 1 }), token: Some(token), body }) == None
+    write_request(
+        &mut out,
+        Request {
+            site,
+            path,
+            origin: Some(Site {
+                host: origin,
+                port: 1,
+            }),
+            token: Some(token),
+            body,
+        },
+    )
+        == None
 }
 
 // What could not be read back is not written.

@@ -27,7 +27,7 @@ use Rattle.lines.specs.Lines.{crlf, fieldText, among, tokenOk, tokenFits, token
 use Rattle.lines.proofs.Back.{field-then, fields-end}
 use Rattle.lines.proofs.Values.{decimal-visible, host-visible, host-back, site-visible, site-back}
 use Rattle.requests.specs.Requests.{Known, unknown, orUnreadable, readable, hostField, originField, lengthFrom, taking, Asking, bodyOf, pathThen, readRequest}
-use Rattle.requests.specs.Written.{hostLine, originLine, requestText, originFits, canWrite, RequestReadsBack}
+use Rattle.requests.specs.Written.{hostLine, originLine, requestText, originFits, canWrite}
 
 abbrev Site : Type 0
 Site = List ℕ × ℕ
@@ -89,7 +89,7 @@ body-then h o t body fit =
     let names = tokenNames (originNames o) t in
     let f = known (Some h) o t None in
     let takes : taking f (codes "content-length") ds ≡ Read (known (Some h) o t (Some n)) =
-        cond-true (ltb 0 (length ds)) (lengthFrom f (number 1024 0 ds)) (Fault 6) (lt-ltb 0 (length ds) (decimal-some n small)) ∙ ap (lengthFrom f) (number-decimal 1024 n fit small) in
+    cond-true (ltb 0 (length ds)) (lengthFrom f (number 1024 0 ds)) (Fault 6) (lt-ltb 0 (length ds) (decimal-some n small)) ∙ ap (lengthFrom f) (number-decimal 1024 n fit small) in
     ap (λ l. left names f (codes "content-length: " ++ l)) (append-assoc ds (crlf ++ crlf) body)
     ∙ field-then (codes "content-length") ds refl refl (decimal-visible n small) taking names f (known (Some h) o t (Some n)) (crlf ++ body) takes (length-new o t)
     ∙ fields-end taking (names ++ (codes "content-length" ∷ [])) (known (Some h) o t (Some n)) body
@@ -101,7 +101,7 @@ path-visible path ok =
     let d = and-parts (eqb (getD path 0 0) 47) (eqb (leading (has Visible) path) (length path)) (b .1) in
     eqb-true (leading (has Visible) path) (length path) (d .1)
 
-pub request-back : RequestReadsBack
+pub request-back : (q : Asking) → canWrite q ≡ true → readRequest (requestText q) ≡ Read q
 request-back q ok =
     let a = and-parts (siteOk (q .site .0) (q .site .1)) (pathOk (q .path) && (originFits (q .origin) && (tokenFits (q .token) && leb (length (q .body)) 1024))) ok in
     let b = and-parts (pathOk (q .path)) (originFits (q .origin) && (tokenFits (q .token) && leb (length (q .body)) 1024)) (a .1) in
@@ -116,8 +116,8 @@ request-back q ok =
     let visible = path-visible (q .path) (b .0) in
     let read = host-then (q .site) rest1 (a .0) ∙ origin-then (q .site) (q .origin) rest2 (d .0) ∙ token-then (q .site) (q .origin) (q .token) rest3 (e .0) ∙ body-then (q .site) (q .origin) (q .token) (q .body) (leb-true n 1024 (e .1)) in
     ap orUnreadable (
-      ap (λ t. pathThen (front (has Visible) t) (past (has Visible) t)) (append-assoc (q .path) http rest)
-      ∙ (λ i. pathThen (front-append (has Visible) (q .path) (http ++ rest) visible refl i) (past-append (has Visible) (q .path) (http ++ rest) visible refl i))
-      ∙ cond-true (pathOk (q .path)) (andThen (readable (fields taking unknown rest)) (λ h. bodyOf (q .path) (h .0) (h .1))) None (b .0)
-      ∙ ap (λ o. andThen (readable o) (λ h. bodyOf (q .path) (h .0) (h .1))) read
-      ∙ cond-true (eqb n n) (Some q) None (eq-eqb n n refl))
+    ap (λ t. pathThen (front (has Visible) t) (past (has Visible) t)) (append-assoc (q .path) http rest)
+    ∙ (λ i. pathThen (front-append (has Visible) (q .path) (http ++ rest) visible refl i) (past-append (has Visible) (q .path) (http ++ rest) visible refl i))
+    ∙ cond-true (pathOk (q .path)) (andThen (readable (fields taking unknown rest)) (λ h. bodyOf (q .path) (h .0) (h .1))) None (b .0)
+    ∙ ap (λ o. andThen (readable o) (λ h. bodyOf (q .path) (h .0) (h .1))) read
+    ∙ cond-true (eqb n n) (Some q) None (eq-eqb n n refl))

@@ -1,5 +1,4 @@
--- Requests as they are written, and that they are read back. Assumes nothing.
-use mathlib.Core.Path.{_≡_}
+-- Requests as they are written. Assumes nothing.
 use mathlib.Core.Bool.{Bool, true, _&&_}
 use mathlib.Core.List.{List, [], _++_}
 use Prim.Native.Nat.{ℕ}
@@ -8,11 +7,10 @@ use lib.Dec.{leb}
 use lib.ListN.{length}
 use Rattle.std.specs.declared.option.Option.{Option}
 use Rattle.std.specs.declared.option.Option.the-variants.{Some, None}
-use Rattle.bytes.specs.Answers.{Read}
 use Rattle.addresses.specs.Address.{siteOk, pathOk}
 use Rattle.addresses.specs.Written.{portText, siteText}
 use Rattle.lines.specs.Lines.{crlf, fieldText, tokenFits, tokenLine, lengthLine}
-use Rattle.requests.specs.Requests.{Asking, readRequest}
+use Rattle.requests.specs.Requests.{Asking}
 
 -- the site that is asked, with its port unless it is 443
 abbrev pub hostLine : List ℕ × ℕ → List ℕ
@@ -35,7 +33,3 @@ originFits (Some site) = siteOk (site .0) (site .1)
 -- each part within its rules, and up to 1,024 bytes
 abbrev pub canWrite : Asking → Bool
 canWrite q = siteOk (q .site .0) (q .site .1) && (pathOk (q .path) && (originFits (q .origin) && (tokenFits (q .token) && leb (length (q .body)) 1024)))
-
--- a request that can be written is read back
-abbrev pub RequestReadsBack : Type 0
-RequestReadsBack = (q : Asking) → canWrite q ≡ true → readRequest (requestText q) ≡ Read q

@@ -134,7 +134,12 @@ fn path_then<'a>(path: &'a [u8], s: &'a [u8]) -> Option<Request<'a>>
     let Some(rest) = strip(s, b" HTTP/1.1\r\n") else {
         return None;
     };
-    let none = Heads { host: None, origin: None, token: None, length: None };
+    let none = Heads {
+        host: None,
+        origin: None,
+        token: None,
+        length: None,
+    };
     let Ok((h, body)) = read_fields(none, rest) else {
         return None;
     };
@@ -147,7 +152,13 @@ fn path_then<'a>(path: &'a [u8], s: &'a [u8]) -> Option<Request<'a>>
     if body.len() != n as usize {
         return None;
     }
-    Some(Request { site, path, origin: h.origin, token: h.token, body })
+    Some(Request {
+        site,
+        path,
+        origin: h.origin,
+        token: h.token,
+        body,
+    })
 }
 
 // Reads a request to its end.
