@@ -11,7 +11,9 @@ use windows::script_of;
 
 #[test]
 fn a_page_that_can_be_read_gives_its_steps() -> Result<(), Fail> {
-    let script = Script::new(&[Step::Wait(Call::Look), Step::Jump(0)]).ok_or("too many steps")?;
+    let Some(script) = Script::new(&[Step::Wait(Call::Look), Step::Jump(0)]) else {
+        return Err(Fail::new("too many steps"));
+    };
     let mut page = [0; 24];
     let size = script.write(&mut page).ok_or("no room")?;
     check_eq(size, 24)?;

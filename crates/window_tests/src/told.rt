@@ -36,23 +36,32 @@ fn said(kind: u32, site: u32, len: u32) -> Outcome {
 }
 
 fn word(from: u32, bytes: &[u8]) -> Result<Word, Fail> {
-    Ok(Word {
-        from: SiteNumber::new(from).ok_or("no site")?,
-        text: Text::new(bytes).ok_or("too long")?,
-    })
+    let Some(from) = SiteNumber::new(from) else {
+        return Err(Fail::new("no site"));
+    };
+    let Some(text) = Text::new(bytes) else {
+        return Err(Fail::new("too long"));
+    };
+    Ok(Word { from, text })
 }
 
 // A window of a site, whose page is /p.
 fn window(site: u32, steps: &[Step]) -> Result<Window, Fail> {
-    let script = Script::new(steps).ok_or("too many steps")?;
-    let path = Text::new(b"/p").ok_or("too long")?;
-    let site = SiteNumber::new(site).ok_or("no site")?;
+    let Some(script) = Script::new(steps) else {
+        return Err(Fail::new("too many steps"));
+    };
+    let Some(path) = Text::new(b"/p") else {
+        return Err(Fail::new("too long"));
+    };
+    let Some(site) = SiteNumber::new(site) else {
+        return Err(Fail::new("no site"));
+    };
     Ok(Window::new(site, &path, script))
 }
 
 // The window's turn: it says this, with these bytes.
 fn check_told(window: &mut Window, kind: u32, site: u32, bytes: &[u8]) -> Result<(), Fail> {
-    let len = u32::try_from(bytes.len()).ok_or("too long")?;
+    let len = u32::try_from(bytes.len())?;
     check_eq(window.step(16), said(kind, site, len))?;
     check(window.bytes(Span { from: 0, len }) == bytes)
 }

@@ -11,7 +11,7 @@ use Rattle.machine.specs.declared.Told.{Told as MachineTold}
 use Rattle.machine.specs.declared.Told.the-variants as by
 use Rattle.machine.specs.Turn.{bytesOf}
 use Rattle.pages.specs.Sites.{Bytes}
-use Rattle.windows.specs.Scripts.{toldOf, machineTold, bytesTold}
+use Rattle.windows.specs.Scripts.{toldOf, bytesTold}
 
 -- lists whose elements are compared by what they stand for
 module _ {W V : Type 0} (f : W → V) where
@@ -42,35 +42,21 @@ module _ {W V : Type 0} (f : W → V) where
   maps-decide xs ys r h = matches-decides (map f xs) (map f ys) r (matches-map xs ys r h)
 
 -- what is told is known by its kind and by the bytes that go with it
-told-again : (t : MachineTold) (bs : Bytes) → machineTold (toldOf t bs) ≡ t
-told-again by.Silence bs = refl
-told-again by.Begun bs = refl
-told-again (by.Answer site code) bs = refl
-told-again (by.Barred site) bs = refl
-told-again (by.Heard site) bs = refl
-told-again by.Kept bs = refl
-
-bytes-again : (t : MachineTold) (bs : Bytes) → bytesTold (toldOf t bs) ≡ bytesOf t bs
-bytes-again by.Silence bs = refl
-bytes-again by.Begun bs = refl
-bytes-again (by.Answer site code) bs = refl
-bytes-again (by.Barred site) bs = refl
-bytes-again (by.Heard site) bs = refl
-bytes-again by.Kept bs = refl
-
-told-of-bytes : (t : MachineTold) (bs : Bytes) → toldOf t (bytesOf t bs) ≡ toldOf t bs
-told-of-bytes by.Silence bs = refl
-told-of-bytes by.Begun bs = refl
-told-of-bytes (by.Answer site code) bs = refl
-told-of-bytes (by.Barred site) bs = refl
-told-of-bytes (by.Heard site) bs = refl
-told-of-bytes by.Kept bs = refl
+told-parts : (t : MachineTold) (bs : Bytes) → (bytesTold (toldOf t bs) ≡ bytesOf t bs) × (toldOf t (bytesOf t bs) ≡ toldOf t bs)
+told-parts by.Silence bs = (refl, refl)
+told-parts by.Begun bs = (refl, refl)
+told-parts (by.Answer site code) bs = (refl, refl)
+told-parts (by.Barred site) bs = (refl, refl)
+told-parts (by.Heard site) bs = (refl, refl)
+told-parts by.Kept bs = (refl, refl)
 
 pub told-decides : (a b : MachineTold) (xs ys : Bytes) (r : Bool) → a ≡ b → Decides r (bytesOf a xs ≡ bytesOf b ys) → Decides r (toldOf a xs ≡ toldOf b ys)
-told-decides a b xs ys r e d = (
-  λ t. sym (told-of-bytes a xs) ∙ ap (λ z. toldOf z (bytesOf a xs)) e ∙ ap (toldOf b) (d .0 t) ∙ told-of-bytes b ys,
-  λ q. d .1 (sym (bytes-again a xs) ∙ ap bytesTold q ∙ bytes-again b ys),
-)
+told-decides a b xs ys r e d =
+    let p = told-parts a xs in
+    let q = told-parts b ys in (
+      λ t. sym (p .1) ∙ ap (λ z. toldOf z (bytesOf a xs)) e ∙ ap (toldOf b) (d .0 t) ∙ q .1,
+      λ f. d .1 (sym (p .0) ∙ ap bytesTold f ∙ q .0),
+    )
 
 -- a value that is known by another
 pub decides-by : {A : Type 0} (xs ys a b : A) (r : Bool) → xs ≡ a → ys ≡ b → Decides r (xs ≡ ys) → Decides r (a ≡ b)
