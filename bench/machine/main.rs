@@ -117,6 +117,20 @@ fn turns() -> Vec<u8> {
     ])
 }
 
+/// Waits after six steps: the copying of what it is told is most of its work.
+fn shortest() -> Vec<u8> {
+    page(&[
+        (0, 4, 0, 0, 1),
+        (0, 20, 0, 0, 0),
+        (8, 6, 20, 0, 0),
+        (2, 7, 7, 6, 0),
+        (2, 8, 8, 4, 0),
+        (1, 21, 1, 0, 0),
+        (10, 8, 2, 20, 2),
+        (6, 0, 0, 0, 2),
+    ])
+}
+
 /// Runs something over a cleared memory: how long it took, and what it answered and left.
 fn timed(memory: &mut [u8], run: impl FnOnce(&mut [u8]) -> u32) -> (f64, u32, Vec<u8>) {
     memory.fill(0);
@@ -131,6 +145,7 @@ fn main() {
         ("arithmetic loop", arithmetic(), 4_000),
         ("memory walk", walk(), 4_000),
         ("short turns, told 1,024 bytes", turns(), 300_000),
+        ("the same, of six steps each", shortest(), 1_000_000),
     ];
     let rounds: u32 = std::env::args().nth(1).and_then(|n| n.parse().ok()).unwrap_or(10);
     for (name, page, turns) in &programs {
