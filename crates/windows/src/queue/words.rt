@@ -8,6 +8,9 @@ ghost use Rattle.windows.specs.Queues.{wordOf, wordsOf, appended, oldest};
 use super::Queue;
 use super::Word;
 
+// The most words that wait for a window.
+const MOST: usize = 8;
+
 impl PartialEq<Word> for Word as SameWord {
     ghost equals = { λ x y r. Decides r (wordOf x ≡ wordOf y) };
 
@@ -32,7 +35,7 @@ impl Queue {
         ensures { λ _. ⌜ wordsOf (now (self .exit)) ≡ appended (wordOf (now (word .entry))) (wordsOf (now (self .entry))) ⌝ }
     {
         let n = self.count;
-        if n < 8 {
+        if n < MOST {
             self.words[n] = *word;
             self.count = n + 1;
         }
