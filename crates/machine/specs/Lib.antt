@@ -4,3 +4,4 @@ pub mod Turn
 pub mod Acts
 pub mod Laws
 pub mod Script
+pub mod Tells

@@ -4,7 +4,9 @@ ghost use Rattle.machine.specs.Turn.{fresh, faultNumber};
 
 pub mod laws;
 mod limits;
+mod same;
 mod step;
+mod tell;
 mod turn;
 
 // A part of a script's memory.
@@ -59,7 +61,7 @@ enum Flow {
     Faults,
 }
 
-#[derive(Clone, Copy)]
+#[derive(Clone, Copy, PartialEq, Eq)]
 enum Status {
     Waiting,
     Running,

@@ -28,7 +28,7 @@ impl Machine {
     }
 
     // The part of a memory of so many bytes that registers a and a + 1 name.
-    fn span(&self, a: u8, size: usize) -> Option<Span>
+    pub fn span(&self, a: u8, size: usize) -> Option<Span>
         ensures { λ r. ⌜ r ≡ spanAt (now (self .entry)) size a ⌝ }
     {
         if a >= 31 {

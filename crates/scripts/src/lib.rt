@@ -5,8 +5,10 @@ ghost use Rattle.scripts.specs.Page.{faultNumber};
 mod decode;
 mod encode;
 mod page;
+mod same;
 mod script;
 
+pub use same::SameStep;
 pub use script::Script;
 
 // One step of a script. Registers are named by a byte, steps by their place in the script.
