@@ -18,9 +18,6 @@ pub trait Servers {
     // is one function for all values of the type, so what differs between two families lies in their states.
     ghost serving: { ℕ → List ℕ → State → List ℕ × State };
 
-    // Sites have numbers below 16.
-    law beyond: { (x y : Self) (s : ℕ) → 16 ≤ s → states x s ≡ states y s };
-
     // Hands a request to a site's server. Its answer is at the front of the room, so many bytes; one that does not fit is
     // no bytes at all, which nobody can read. No other server's state changes.
     fn exchange(&mut self, site: u8, request: &[u8], room: &mut [u8]) -> usize
@@ -28,7 +25,8 @@ pub trait Servers {
         ensures answer { λ r. ⌜ take r (now (room .exit)) ≡ fitting (length (now (room .entry))) (serving site (now (request .entry)) (states (now (self .entry)) site) .0) ⌝ }
         ensures after { λ _. ⌜ states (now (self .exit)) ≡ at site (serving site (now (request .entry)) (states (now (self .entry)) site) .1) (states (now (self .entry))) ⌝ };
 
-    // Is a site's server in the same state in both?
+    // Is a site's server in the same state in both? Sites have numbers below 16, and beyond nothing differs.
     fn same(&self, other: &Self, site: u8) -> bool
-        ensures { λ r. ⌜ Decides r (states (now (self .entry)) site ≡ states (now (other .entry)) site) ⌝ };
+        ensures state { λ r. ⌜ Decides r (states (now (self .entry)) site ≡ states (now (other .entry)) site) ⌝ }
+        ensures beyond { λ _. ⌜ ((s : ℕ) → 16 ≤ s → states (now (self .entry)) s ≡ states (now (other .entry)) s) ⌝ };
 }
