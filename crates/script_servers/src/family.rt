@@ -8,6 +8,8 @@ mod compare;
 mod make;
 mod serve;
 
+pub use serve::ScriptsServe;
+
 // A server for each of 16 sites, and the table of the sites that they know by number.
 #[derive(Drop)]
 pub struct ScriptServers<'a> {
