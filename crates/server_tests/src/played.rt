@@ -15,9 +15,13 @@ fn asking() -> &'static [u8] {
 
 // The page file of these steps is the script of a site's server.
 fn add(family: &mut ScriptServers<'_>, site: u8, steps: &[Step]) -> Result<(), Fail> {
-    let script = Script::new(steps).ok_or("too many steps")?;
+    let Some(script) = Script::new(steps) else {
+        return check(false);
+    };
     let mut page = [0u8; 256];
-    let n = script.write(&mut page).ok_or("no room")?;
+    let Some(n) = script.write(&mut page) else {
+        return check(false);
+    };
     check(n <= 256)?;
     let there = family.add(site, &page[0..n])?;
     check(there)
