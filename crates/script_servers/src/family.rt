@@ -1,8 +1,8 @@
 // A server for each site.
 ghost use mathlib.Core.Path.{_≡_};
 ghost use Rattle.std.specs.Of.Vec.{vec-len};
-use addresses::Site;
 use crate::server::Server;
+use addresses::Site;
 
 mod compare;
 mod make;

@@ -28,7 +28,12 @@ fn add(family: &mut ScriptServers<'_>, site: u8, steps: &[Step]) -> Result<(), F
 }
 
 // A site's server answers a request by these bytes.
-fn answers(family: &mut ScriptServers<'_>, site: u8, request: &[u8], answer: &[u8]) -> Result<(), Fail> {
+fn answers(
+    family: &mut ScriptServers<'_>,
+    site: u8,
+    request: &[u8],
+    answer: &[u8],
+) -> Result<(), Fail> {
     let mut room = [0u8; 512];
     let n = family.exchange(site, request, &mut room);
     check(n <= 512)?;
@@ -70,19 +75,46 @@ fn echo() -> [Step; 9] {
 
 #[test]
 fn a_server_counts_its_visitors(rt: LibcRuntime) -> Result<(), Fail> {
-    let sites = [Site { host: b"a.example", port: 443 }];
+    let sites = [Site {
+        host: b"a.example",
+        port: 443,
+    }];
     let mut family = ScriptServers::new(rt.alloc(), &sites)?;
     add(&mut family, 1, &counter())?;
-    answers(&mut family, 1, asking(), b"HTTP/1.1 200 \r\ncontent-length: 1\r\n\r\n1")?;
-    answers(&mut family, 1, asking(), b"HTTP/1.1 200 \r\ncontent-length: 1\r\n\r\n2")?;
+    answers(
+        &mut family,
+        1,
+        asking(),
+        b"HTTP/1.1 200 \r\ncontent-length: 1\r\n\r\n1",
+    )?;
+    answers(
+        &mut family,
+        1,
+        asking(),
+        b"HTTP/1.1 200 \r\ncontent-length: 1\r\n\r\n2",
+    )?;
     // a request that can't be read is no visitor
     answers(&mut family, 1, b"GET /a HTTP/1.1\r\n\r\n", b"")?;
-    answers(&mut family, 1, asking(), b"HTTP/1.1 200 \r\ncontent-length: 1\r\n\r\n3")
+    answers(
+        &mut family,
+        1,
+        asking(),
+        b"HTTP/1.1 200 \r\ncontent-length: 1\r\n\r\n3",
+    )
 }
 
 #[test]
 fn what_is_told_can_be_answered(rt: LibcRuntime) -> Result<(), Fail> {
-    let sites = [Site { host: b"b.example", port: 8443 }, Site { host: b"a.example", port: 443 }];
+    let sites = [
+        Site {
+            host: b"b.example",
+            port: 8443,
+        },
+        Site {
+            host: b"a.example",
+            port: 443,
+        },
+    ];
     let mut family = ScriptServers::new(rt.alloc(), &sites)?;
     add(&mut family, 0, &echo())?;
     answers(
@@ -102,12 +134,27 @@ fn what_is_told_can_be_answered(rt: LibcRuntime) -> Result<(), Fail> {
 
 #[test]
 fn one_server_faults_and_the_others_go_on(rt: LibcRuntime) -> Result<(), Fail> {
-    let sites = [Site { host: b"a.example", port: 443 }];
+    let sites = [Site {
+        host: b"a.example",
+        port: 443,
+    }];
     let mut family = ScriptServers::new(rt.alloc(), &sites)?;
     add(&mut family, 1, &counter())?;
-    add(&mut family, 2, &[Step::Constant(5, 4096), Step::Load(6, 5), Step::Wait(Call::Nothing)])?;
+    add(
+        &mut family,
+        2,
+        &[
+            Step::Constant(5, 4096),
+            Step::Load(6, 5),
+            Step::Wait(Call::Nothing),
+        ],
+    )?;
     add(&mut family, 3, &[Step::Jump(0)])?;
-    add(&mut family, 4, &[Step::Constant(8, 6), Step::Wait(Call::Look), Step::Jump(1)])?;
+    add(
+        &mut family,
+        4,
+        &[Step::Constant(8, 6), Step::Wait(Call::Look), Step::Jump(1)],
+    )?;
     let digits: [&[u8]; 3] = [
         b"HTTP/1.1 200 \r\ncontent-length: 1\r\n\r\n1",
         b"HTTP/1.1 200 \r\ncontent-length: 1\r\n\r\n2",
@@ -125,9 +172,17 @@ fn one_server_faults_and_the_others_go_on(rt: LibcRuntime) -> Result<(), Fail> {
 
 #[test]
 fn any_bytes_can_be_answered(rt: LibcRuntime) -> Result<(), Fail> {
-    let sites = [Site { host: b"a.example", port: 443 }];
+    let sites = [Site {
+        host: b"a.example",
+        port: 443,
+    }];
     let mut family = ScriptServers::new(rt.alloc(), &sites)?;
-    let raw = [Step::Constant(8, 7), Step::Constant(11, 1), Step::Constant(12, 3), Step::Wait(Call::Nothing)];
+    let raw = [
+        Step::Constant(8, 7),
+        Step::Constant(11, 1),
+        Step::Constant(12, 3),
+        Step::Wait(Call::Nothing),
+    ];
     add(&mut family, 7, &raw)?;
     // from the body on into the path
     answers(&mut family, 7, asking(), b"i/a")
@@ -135,16 +190,29 @@ fn any_bytes_can_be_answered(rt: LibcRuntime) -> Result<(), Fail> {
 
 #[test]
 fn servers_are_compared_site_by_site(rt: LibcRuntime) -> Result<(), Fail> {
-    let sites = [Site { host: b"a.example", port: 443 }];
+    let sites = [Site {
+        host: b"a.example",
+        port: 443,
+    }];
     let mut one = ScriptServers::new(rt.alloc(), &sites)?;
     let mut other = ScriptServers::new(rt.alloc(), &sites)?;
     add(&mut one, 1, &counter())?;
     check(!one.same(&other, 1))?;
     add(&mut other, 1, &counter())?;
     check(one.same(&other, 1))?;
-    answers(&mut one, 1, asking(), b"HTTP/1.1 200 \r\ncontent-length: 1\r\n\r\n1")?;
+    answers(
+        &mut one,
+        1,
+        asking(),
+        b"HTTP/1.1 200 \r\ncontent-length: 1\r\n\r\n1",
+    )?;
     check(!one.same(&other, 1))?;
     check(one.same(&other, 0))?;
-    answers(&mut other, 1, asking(), b"HTTP/1.1 200 \r\ncontent-length: 1\r\n\r\n1")?;
+    answers(
+        &mut other,
+        1,
+        asking(),
+        b"HTTP/1.1 200 \r\ncontent-length: 1\r\n\r\n1",
+    )?;
     check(one.same(&other, 1))
 }

@@ -2,7 +2,6 @@
 ghost use mathlib.Core.Path.{_≡_};
 ghost use Rattle.std.specs.Options.{mapped};
 ghost use Rattle.bytes.specs.Buffers.{written};
-
 ghost use Rattle.script_servers.specs.Replies.{partAt, codeBy, allowsBy, tokenBy, contentAt, textBy, rawBy, replyAt, replyBy};
 ghost use Rattle.answers.specs.Views.{contentOf, allowsBy as allowsOf};
 ghost use Rattle.script_servers.specs.Rooms.{taken};
@@ -82,7 +81,12 @@ impl Server {
         let Some(token) = token_by(self.machine.register(14), self.part(13)) else {
             return None;
         };
-        Some(Response { code, token, allowed, body })
+        Some(Response {
+            code,
+            token,
+            allowed,
+            body,
+        })
     }
 
     fn answer<'s>(&'s self, sites: &'s [Site<'s>], kind: Kind, room: &mut [u8]) -> usize
@@ -112,7 +116,13 @@ impl Server {
     }
 
     // Writes what came of a turn.
-    pub(crate) fn reply<'s>(&'s self, outcome: Outcome, sites: &'s [Site<'s>], kind: Kind, room: &mut [u8]) -> usize
+    pub(crate) fn reply<'s>(
+        &'s self,
+        outcome: Outcome,
+        sites: &'s [Site<'s>],
+        kind: Kind,
+        room: &mut [u8],
+    ) -> usize
         ensures count { λ r. ⌜ r ≡ taken (replyBy outcome (sitesOf (now (sites .entry))) kind (stateOf (now (self .entry)))) (now (room .entry)) ⌝ }
         ensures room { λ _. ⌜ now (room .exit) ≡ written (replyBy outcome (sitesOf (now (sites .entry))) kind (stateOf (now (self .entry)))) (now (room .entry)) ⌝ }
     {

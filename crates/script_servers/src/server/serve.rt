@@ -23,7 +23,11 @@ impl Server {
     pub(crate) fn new(script: Script) -> Server
         ensures { λ r. ⌜ stateOf r ≡ initial (stepsOf script) ⌝ }
     {
-        Server { script, machine: Machine::new(), memory: [0; 4096] }
+        Server {
+            script,
+            machine: Machine::new(),
+            memory: [0; 4096],
+        }
     }
 
     // Runs on until the script waits, faults, or has done 10,000 steps.

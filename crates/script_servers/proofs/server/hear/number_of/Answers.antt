@@ -14,7 +14,7 @@ returns-then-same-site c =
 pub loop-known-again : need.loop-known-again
 loop-known-again c = (
   sym (number-next _ _ _ _ _ _ (c .loop-known-test .taken) (c .if-n-ge16 .left) (c .same-site .ensures) (c .if-same-site .left))
-  ∙ c .loop-known .inv .0,
+      ∙ c .loop-known .inv .0,
   omega arith,
 )
 
