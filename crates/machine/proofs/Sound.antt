@@ -34,7 +34,7 @@ inside-if : (b : Bool) (r span : Span) (size : ℕ) → (b ≡ true → Inside r
 inside-if true r span size h e = let same : r ≡ span = cc in subst (λ x. Inside x size) same (h refl)
 inside-if false r span size h e = let z : _≡_ {A = ℕ} 0 1 = cc in absurd (omega arith)
 
-pub span-inside : (m : Machine) (size a : ℕ) (span : Span) → spanAt m size a ≡ Some span → Inside span size
+span-inside : (m : Machine) (size a : ℕ) (span : Span) → spanAt m size a ≡ Some span → Inside span size
 span-inside m size a span e =
     let fits = leb (register m a + register m (a + 1)) size in
     inside-if (ltb a 31 && fits) _ span size (λ t. leb-true _ _ (and-parts (ltb a 31) fits t .1)) e
