@@ -1,0 +1,6 @@
+pub mod Told
+pub mod Replies
+pub mod Serving
+pub mod Views
+pub mod Rooms
+pub mod Family
