@@ -16,8 +16,8 @@ use Rattle.scripts.specs.Page.{pageIn}
 use Rattle.scripts.specs.Page as page
 use Rattle.machine.specs.Script.{State, turnFrom}
 use Rattle.machine.specs.Turn as turn
-use Rattle.pages.specs.Sites.{Bytes, Act, Idle, Asks, Says, Keeps, Looks, Opens, Request, Reply}
-use Rattle.pages.specs.Browser.{Window, nth, toldNow}
+use Rattle.pages.specs.Sites.{Bytes, Scripts, Act, Idle, Asks, Says, Keeps, Looks, Opens, Request, Reply}
+use Rattle.pages.specs.Browser.{Window, Part, nth, toldNow, actOf}
 use Rattle.pages.specs.Outs.{Out, out, Asked, Said, Opened, isOf, letBy}
 use Rattle.windows.specs.Scripts.{machineTold, bytesTold}
 use Rattle.browser.specs.Wire.{kindFor}
@@ -63,3 +63,8 @@ readFault from (Read a) = contentFault from a
 abbrev pub answerFault : Option Request → Bytes → ℕ
 answerFault None bs = 0
 answerFault (Some q) bs = readFault (q .from) (readAnswer (kindFor (q .from)) bs)
+
+-- What the page of the window that is there, if one is, lets out in its turn.
+abbrev pub pageOutsOf : Scripts State → Option (Window State) → Part State → List Out
+pageOutsOf c None b = []
+pageOutsOf c (Some x) b = pageOuts (b .windows) (x .site) (actOf c x)

@@ -6,16 +6,16 @@ use Rattle.std.specs.declared.option.Option.the-variants.{Some, None}
 use Rattle.std.specs.Options.{mapped}
 use Rattle.bounded.specs.Texts.{textOf}
 use Rattle.bounded.specs.Numbers.{numberOf}
-use Rattle.pages.specs.Sites.{Request}
+use Rattle.pages.specs.Sites.{Bytes, Request}
 use Rattle.pages.specs.Outs as outs
 use Rattle.browser.specs.declared.values.Need.{Need}
 use Rattle.browser.specs.declared.values.What.{What}
 use Rattle.browser.specs.declared.values.What.the-variants.{Asked, Said, Opened, Let}
 use Rattle.browser.specs.declared.values.Out.{Out}
 
--- What is asked of a server.
-abbrev pub needOf : Need → Request
-needOf n = record { site = numberOf (n .site); from = mapped numberOf (n .from); token = mapped textOf (n .token); path = textOf (n .path); body = textOf (n .body) }
+-- What is asked of a server, with its token.
+abbrev pub needOf : (ℕ → Option Bytes) → Need → Request
+needOf tokens n = record { site = numberOf (n .site); from = mapped numberOf (n .from); token = tokens (numberOf (n .site)); path = textOf (n .path); body = textOf (n .body) }
 
 -- What is let out.
 abbrev pub whatOf : What → outs.What

@@ -4,7 +4,11 @@ ghost use Rattle.std.specs.Of.Vec.{vec-len, vec-cap};
 use storage::stores::Stores;
 use storage::table::Table;
 use storage::tokens::Tokens;
-use windows::window::Window;
+use windows::Window;
+
+mod acts;
+mod replies;
+mod turns;
 
 #[derive(Drop)]
 pub struct Browser {

@@ -2,12 +2,12 @@
 use bounded::site::SiteNumber;
 use bounded::text::Text;
 
-// A request: to which site's server, from which site's page (from none where a page is opened), with which token.
+// A request: to which site's server, and from which site's page (from none where a page is opened). The server's token
+// goes with it.
 #[derive(Clone, Copy)]
 pub struct Need {
     pub site: SiteNumber,
     pub from: Option<SiteNumber>,
-    pub token: Option<Text<64>>,
     pub path: Text<255>,
     pub body: Text<1024>,
 }

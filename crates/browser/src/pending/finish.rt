@@ -1,0 +1,82 @@
+// The second half of an event.
+ghost use mathlib.Core.Path.{_≡_};
+ghost use mathlib.Core.Bool.{cond};
+ghost use lib.Dec.{eqb};
+ghost use Rattle.std.specs.Options.{mapped};
+ghost use Rattle.bytes.specs.Buffers.{written, count};
+ghost use Rattle.requests.specs.Written.{requestText, canWrite};
+ghost use Rattle.storage.specs.Storage.{tokensOf};
+ghost use Rattle.browser.specs.Ends.{requestOf, finished, serverOutsOf, faultsOf, requestWritten, requestCount};
+ghost use Rattle.browser.specs.Parts.{partOf, sitesIn, scriptsIn};
+ghost use Rattle.browser.specs.Values.{needOf, outsOf};
+use super::Finished;
+use super::Pending;
+use requests::Request;
+use requests::write::write_request;
+
+impl Pending {
+    // The site whose server is asked, if one is.
+    pub fn asks(&self) -> Option<u8> {
+        match self.need {
+            Some(need) => Some(need.site.number()),
+            None => None,
+        }
+    }
+
+    // Writes the request to the front of the room, and says how long it is.
+    pub fn request(&self, room: &mut [u8]) -> Option<usize>
+        ensures count { λ r. ⌜ r ≡ requestCount (sitesIn (now (self .entry) .browser)) (requestOf (now (self .entry))) (now (room .entry)) ⌝ }
+        ensures room { λ _. ⌜ now (room .exit) ≡ requestWritten (sitesIn (now (self .entry) .browser)) (requestOf (now (self .entry))) (now (room .entry)) ⌝ }
+    {
+        let Some(need) = self.need else {
+            return None;
+        };
+        let origin = match need.from {
+            Some(from) => Some(self.browser.site(from)),
+            None => None,
+        };
+        let request = Request {
+            site: self.browser.site(need.site),
+            path: need.path.as_slice(),
+            origin,
+            token: self.browser.tokens.get(need.site),
+            body: need.body.as_slice(),
+        };
+        write_request(room, request)
+    }
+
+    // Takes the bytes of the answer, which say nothing where no server was asked, and gives the browser back.
+    pub fn finish(self, answer: &[u8]) -> Finished
+        ensures part { λ r. ⌜ partOf (r .browser) ≡ finished (sitesIn (self .browser)) (self .window) (requestOf self) (now (answer .entry)) (partOf (self .browser)) ⌝ }
+        ensures page { λ r. ⌜ r .page ≡ self .out ⌝ }
+        ensures server { λ r. ⌜ outsOf (r .server) ≡ serverOutsOf (sitesIn (self .browser)) (requestOf self) (now (answer .entry)) ⌝ }
+        ensures fault { λ r. ⌜ r .fault ≡ faultsOf (self .fault) (requestOf self) (now (answer .entry)) ⌝ }
+        ensures sites { λ r. ⌜ sitesIn (r .browser) ≡ sitesIn (self .browser) ⌝ }
+    {
+        let Pending {
+            mut browser,
+            window,
+            need,
+            out,
+            fault,
+        } = self;
+        let Some(need) = need else {
+            return Finished {
+                browser,
+                page: out,
+                server: None,
+                fault,
+            };
+        };
+        let replied = match need.from {
+            Some(from) => browser.answered(window as usize, &need, from, answer),
+            None => browser.opened(&need, answer),
+        };
+        Finished {
+            browser,
+            page: out,
+            server: replied.out,
+            fault: replied.fault,
+        }
+    }
+}
