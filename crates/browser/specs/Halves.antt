@@ -14,12 +14,12 @@ use Rattle.scripts.specs.declared.Step.{Step}
 use Rattle.scripts.specs.declared.Unreadable.{Unreadable}
 use Rattle.scripts.specs.Page.{pageIn}
 use Rattle.scripts.specs.Page as page
-use Rattle.machine.specs.Script.{State, turnFrom}
+use Rattle.machine.specs.Script.{State}
 use Rattle.machine.specs.Turn as turn
 use Rattle.pages.specs.Sites.{Bytes, Scripts, Act, Idle, Asks, Says, Keeps, Looks, Opens, Request, Reply}
 use Rattle.pages.specs.Browser.{Window, Part, nth, toldNow, actOf}
 use Rattle.pages.specs.Outs.{Out, out, Asked, Said, Opened, isOf, letBy}
-use Rattle.windows.specs.Scripts.{machineTold, bytesTold}
+use Rattle.windows.specs.Scripts.{outcomeIn}
 use Rattle.browser.specs.Wire.{kindFor}
 
 -- What the page of a turn lets out.
@@ -44,7 +44,7 @@ serverOuts (Some q) r = serverOutsTo (q .from) (q .site) r
 -- The number of the fault in a window's run, and 0 for none, where n sites are named.
 abbrev pub runFault : ℕ → Option (Window State) → ℕ
 runFault n None = 0
-runFault n (Some x) = turn.faultNumber (turnFrom n (x .state) (machineTold (toldNow x)) (bytesTold (toldNow x)) .outcome)
+runFault n (Some x) = turn.faultNumber (outcomeIn n (x .state) (toldNow x))
 
 -- A page that can't be read has a number, where a page was asked for.
 abbrev pub stepsFault : Result (List Step) Unreadable → ℕ

@@ -1,6 +1,8 @@
 // A browser in the middle of an event: what it needs of a server, what its page let out, and the number of its fault.
+ghost use mathlib.Core.Path.{_≡_};
+ghost use mathlib.Core.Bool.{true};
 ghost use Rattle.std.specs.Of.Vec.{vec-len};
-ghost use Rattle.browser.specs.Needs.{Ready};
+ghost use Rattle.browser.specs.Needs.{isReady};
 use crate::browser::Browser;
 use crate::values::Need;
 use crate::values::Out;
@@ -14,7 +16,7 @@ pub struct Pending {
     pub(crate) need: Option<Need>,
     pub(crate) out: Option<Out>,
     pub(crate) fault: u8,
-    ghost ready: { Ready (vec-len (browser .windows)) window need },
+    ghost ready: { isReady (vec-len (browser .windows)) window need ≡ true },
 }
 
 // An event that is over: the browser, what its page and the asked server let out, and the number of its fault.

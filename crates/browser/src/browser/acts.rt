@@ -1,19 +1,19 @@
 // What an act does that needs no server, and what it needs of one.
 ghost use mathlib.Core.Path.{_≡_};
-ghost use mathlib.Core.List.{[]};
+ghost use mathlib.Core.Bool.{true};
 ghost use Prim.Native.Nat.{_<_};
 ghost use Rattle.std.specs.Of.Vec.{vec-len};
 ghost use Rattle.std.specs.Options.{mapped};
 ghost use Rattle.bounded.specs.Numbers.{numberOf};
 ghost use Rattle.storage.specs.Storage.{tokensOf};
-ghost use Rattle.pages.specs.Browser.{nth, change, hears, acted, needsBy, with-windows};
+ghost use Rattle.pages.specs.Browser.{nth, change, hears, owns, acted, needsBy, with-windows};
 ghost use Rattle.pages.specs.Outs.{isOf};
-ghost use Rattle.machine.specs.declared.Told.the-variants.{Kept};
+ghost use Rattle.pages.specs.Sites.{Kept};
 ghost use Rattle.windows.specs.Queues.{wordOf};
 ghost use Rattle.windows.specs.Windows.{tells};
 ghost use Rattle.browser.specs.Deeds.{deedOf};
 ghost use Rattle.browser.specs.Halves.{pageOuts};
-ghost use Rattle.browser.specs.Needs.{Ready};
+ghost use Rattle.browser.specs.Needs.{isReady};
 ghost use Rattle.browser.specs.Parts.{partOf};
 ghost use Rattle.browser.specs.Values.{needOf, outsOf};
 use super::Browser;
@@ -64,7 +64,7 @@ impl Browser {
 
     // The window is to be told what its site keeps.
     fn look(&mut self, window: usize, site: SiteNumber)
-        ensures part { λ _. ⌜ partOf (now (self .exit)) ≡ with-windows (change window (tells Kept (partOf (now (self .entry)) .kept (numberOf site))) (partOf (now (self .entry)) .windows)) (partOf (now (self .entry))) ⌝ }
+        ensures part { λ _. ⌜ partOf (now (self .exit)) ≡ with-windows (change window (owns (Kept (partOf (now (self .entry)) .kept (numberOf site)))) (partOf (now (self .entry)) .windows)) (partOf (now (self .entry))) ⌝ }
         ensures count { λ _. ⌜ vec-len (now (self .exit) .windows) ≡ vec-len (now (self .entry) .windows) ⌝ }
         ensures rest { λ _. ⌜ now (self .exit) .tokens ≡ now (self .entry) .tokens ⌝ ∗ ⌜ now (self .exit) .table ≡ now (self .entry) .table ⌝ }
     {
@@ -78,7 +78,7 @@ impl Browser {
         requires here { ⌜ window < vec-len (now self .windows) ⌝ }
         ensures part { λ _. ⌜ partOf (now (self .exit)) ≡ acted window (numberOf site) (deedOf (now (deed .entry))) (partOf (now (self .entry))) ⌝ }
         ensures need { λ r. ⌜ mapped (needOf (tokensOf (now (self .exit) .tokens))) r ≡ needsBy (numberOf site) (deedOf (now (deed .entry))) (partOf (now (self .entry))) ⌝ }
-        ensures ready { λ r. ⌜ Ready (vec-len (now (self .exit) .windows)) window r ⌝ }
+        ensures ready { λ r. ⌜ isReady (vec-len (now (self .exit) .windows)) window r ≡ true ⌝ }
         ensures rest { λ _. ⌜ now (self .exit) .table ≡ now (self .entry) .table ⌝ }
     {
         match *deed {

@@ -2,6 +2,7 @@
 ghost use mathlib.Core.Path.{_≡_};
 ghost use mathlib.Core.Bool.{true};
 ghost use mathlib.Core.List.{[]};
+ghost use Prim.Native.Nat.{_≤_};
 ghost use lib.ListN.{length};
 ghost use Rattle.std.specs.Options.{mapped, Cases};
 ghost use Rattle.addresses.specs.Address.{siteOk};
@@ -31,7 +32,8 @@ impl Table {
     }
 
     pub fn len(&self) -> usize
-        ensures { λ r. ⌜ r ≡ length (tableOf (now (self .entry))) ⌝ }
+        ensures is { λ r. ⌜ r ≡ length (tableOf (now (self .entry))) ⌝ }
+        ensures few { λ r. ⌜ r ≤ 16 ⌝ }
     {
         self.len
     }

@@ -5,4 +5,4 @@ use Rattle.storage.proofs.Rows.{length-rows}
 use Rattle.storage.proofs.table.Table.len.Needs as need
 
 pub returns : need.returns
-returns c = sym (length-rows rowOf (c .args .self .now .rows) (c .args .self .now .len) (omega arith))
+returns c = record { is = sym (length-rows rowOf (c .args .self .now .rows) (c .args .self .now .len) (omega arith)); few = omega arith }
