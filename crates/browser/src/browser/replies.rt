@@ -7,7 +7,6 @@ ghost use lib.ListN.{length};
 ghost use Rattle.std.specs.Of.Vec.{vec-len};
 ghost use Rattle.std.specs.Options.{mapped};
 ghost use Rattle.std.specs.declared.option.Option.the-variants.{Some, None};
-ghost use Rattle.addresses.specs.Views.{siteOf};
 ghost use Rattle.answers.specs.declared.Kind.the-variants.{Asked, Page};
 ghost use Rattle.answers.specs.Answers.{readAnswer};
 ghost use Rattle.answers.specs.Views.{contentOf};
@@ -22,23 +21,23 @@ ghost use Rattle.storage.specs.Storage.{tokensOf};
 ghost use Rattle.windows.specs.Scripts.{stepsFrom};
 ghost use Rattle.windows.specs.Windows.{opened as windowWith};
 ghost use Rattle.browser.specs.Ends.{finished, serverOutsOf};
-ghost use Rattle.browser.specs.Halves.{serverOutsTo, stepsFault, readFault, answerFault};
+ghost use Rattle.browser.specs.Halves.{serverOutsTo, unreadableNumber, stepsFault, readFault, answerFault};
 ghost use Rattle.browser.specs.Needs.{readyFor};
 ghost use Rattle.browser.specs.Parts.{partOf, sitesIn, scriptsIn};
 ghost use Rattle.browser.specs.Values.{needOf, outsOf};
-ghost use Rattle.browser.specs.Wire.{siteAt, replyFrom, replyOf};
+ghost use Rattle.browser.specs.Wire.{replyFrom, replyOf};
 use super::Browser;
 use crate::fitted;
 use crate::values::Need;
 use crate::values::Out;
 use crate::values::What;
-use addresses::Site;
 use answers::Kind;
 use answers::Response;
 use answers::read_answer;
 use bounded::site::SiteNumber;
 use lines::MessageFault;
 use machine::Told;
+use scripts::Unreadable;
 use windows::Window;
 use windows::script_of;
 
@@ -58,27 +57,16 @@ fn fault_number(e: MessageFault) -> u8
     }
 }
 
+fn page_fault(unreadable: Option<Unreadable>) -> u8
+    ensures { λ r. ⌜ r ≡ unreadableNumber unreadable ⌝ }
+{
+    match unreadable {
+        Some(fault) => fault.number(),
+        None => 0,
+    }
+}
+
 impl Browser {
-    // Host and port of a numbered site.
-    pub(crate) fn site(&self, number: SiteNumber) -> Site<'_>
-        ensures { λ r. ⌜ siteOf r ≡ siteAt (sitesIn (now (self .entry))) (numberOf number) ⌝ }
-    {
-        match self.table.site(number) {
-            Some(site) => site,
-            None => Site { host: &[], port: 0 },
-        }
-    }
-
-    // The asking site, if a page asks.
-    pub(crate) fn origin(&self, from: Option<SiteNumber>) -> Option<Site<'_>>
-        ensures { λ r. ⌜ mapped siteOf r ≡ mapped (siteAt (sitesIn (now (self .entry)))) (mapped numberOf from) ⌝ }
-    {
-        match from {
-            Some(number) => Some(self.site(number)),
-            None => None,
-        }
-    }
-
     // The asked site's token is the one that the answer sets, if it sets one.
     fn take(&mut self, need: &Need, a: Response<'_>)
         requires { ⌜ tokenFits (contentOf a .token) ≡ true ⌝ }
@@ -155,10 +143,7 @@ impl Browser {
         let (script, unreadable) = script_of(Some(page));
         let window = Window::new(need.site, &need.path, script);
         self.windows.push_reserved(window);
-        match unreadable {
-            Some(why) => why.number(),
-            None => 0,
-        }
+        page_fault(unreadable)
     }
 
     // The page of a window that is opened. An answer that can't be read has none, which is like an empty one.

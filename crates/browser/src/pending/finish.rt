@@ -6,7 +6,6 @@ ghost use Rattle.browser.specs.Parts.{partOf, sitesIn};
 ghost use Rattle.browser.specs.Values.{outsOf};
 use super::Finished;
 use super::Pending;
-use requests::Request;
 use requests::write::write_request;
 
 impl Pending {
@@ -25,19 +24,10 @@ impl Pending {
         ensures count { λ r. ⌜ r ≡ requestCount (sitesIn (now (self .entry) .browser)) (requestOf (now (self .entry))) (now (room .entry)) ⌝ }
         ensures room { λ _. ⌜ now (room .exit) ≡ requestWritten (sitesIn (now (self .entry) .browser)) (requestOf (now (self .entry))) (now (room .entry)) ⌝ }
     {
-        let Some(need) = self.need else {
+        let Some(need) = &self.need else {
             return None;
         };
-        let site = self.browser.site(need.site);
-        let origin = self.browser.origin(need.from);
-        let request = Request {
-            site,
-            path: need.path.as_slice(),
-            origin,
-            token: self.browser.tokens.get(need.site),
-            body: need.body.as_slice(),
-        };
-        write_request(room, request)
+        write_request(room, self.browser.asking(need))
     }
 
     // Takes the bytes of the answer, which say nothing where no server was asked, and gives the browser back.
