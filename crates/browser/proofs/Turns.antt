@@ -67,21 +67,21 @@ module _ {W : Type 0} (g : W → Window State) (c : Scripts State) (ws : List W)
   put : map g (set ws i y) ≡ change i (stepped c) (map g ws)
   put = change-set g (stepped c) ws i x y at-i steps here
 
-  pub begun-is : acted i s a (with-windows (map g (set ws i y)) before) ≡ begunBy c i (nth i (map g ws)) before
+  begun-is : acted i s a (with-windows (map g (set ws i y)) before) ≡ begunBy c i (nth i (map g ws)) before
   begun-is =
       ap (λ z. acted i z a (with-windows (map g (set ws i y)) before)) site
       ∙ ap (λ z. acted i (g x .site) z (with-windows (map g (set ws i y)) before)) act
       ∙ ap (λ z. acted i (g x .site) (actOf c (g x)) (with-windows z before)) put
       ∙ ap (λ z. begunBy c i z before) (sym found)
 
-  pub needs-is : needsBy s a (with-windows (map g (set ws i y)) before) ≡ needsOf c (nth i (map g ws)) before
+  needs-is : needsBy s a (with-windows (map g (set ws i y)) before) ≡ needsOf c (nth i (map g ws)) before
   needs-is =
       needs-stay (map g (set ws i y)) (map g ws) before s a (ap length put ∙ length-change i (stepped c) (map g ws))
       ∙ ap (λ z. needsBy z a before) site
       ∙ ap (λ z. needsBy (g x .site) z before) act
       ∙ ap (λ z. needsOf c z before) (sym found)
 
-  pub outs-is : pageOuts (map g (set ws i y)) s a ≡ pageOutsOf c (nth i (map g ws)) before
+  outs-is : pageOuts (map g (set ws i y)) s a ≡ pageOutsOf c (nth i (map g ws)) before
   outs-is =
       ap (λ z. pageOuts z s a) put
       ∙ outs-stay c (map g ws) i s a
@@ -89,5 +89,7 @@ module _ {W : Type 0} (g : W → Window State) (c : Scripts State) (ws : List W)
       ∙ ap (λ z. pageOuts (map g ws) (g x .site) z) act
       ∙ ap (λ z. pageOutsOf c z before) (sym found)
 
-  pub fault-is : (n : ℕ) → turn.faultNumber (outcomeIn n (g x .state) (toldNow (g x))) ≡ runFault n (nth i (map g ws))
-  fault-is n = ap (runFault n) (sym found)
+  pub first-half : (acted i s a (with-windows (map g (set ws i y)) before) ≡ begunBy c i (nth i (map g ws)) before)
+      × ((needsBy s a (with-windows (map g (set ws i y)) before) ≡ needsOf c (nth i (map g ws)) before)
+      × ((pageOuts (map g (set ws i y)) s a ≡ pageOutsOf c (nth i (map g ws)) before) × (Some (g x) ≡ nth i (map g ws))))
+  first-half = (begun-is, (needs-is, (outs-is, sym found)))
