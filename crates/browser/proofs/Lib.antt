@@ -1,2 +1,3 @@
 pub mod Changes
 pub mod Replies
+pub mod Turns
