@@ -16,7 +16,7 @@ pub returns : need.returns
 returns c = record {
   part = refl;
   need = elim (c .if-len-lt16 .came) [
-    then-len-lt16 w ↦ ap (mapped (needOf (tokensOf (c .args .self .tokens)))) (w .need-is) ∙ page-needed (numberOf (c .args .site)) (textOf (c .args .path .now)) (partOf (c .args .self)) _ (count-is windowOf (c .args .self .windows)) (textOf (w .empty .result)) (w .empty .ensures) (omega arith)
+    | then-len-lt16 w ↦ ap (mapped (needOf (tokensOf (c .args .self .tokens)))) (w .need-is) ∙ page-needed (numberOf (c .args .site)) (textOf (c .args .path .now)) (partOf (c .args .self)) _ (count-is windowOf (c .args .self .windows)) (textOf (w .empty .result)) (w .empty .ensures) (omega arith)
     | else-len-lt16 w ↦ ap (mapped (needOf (tokensOf (c .args .self .tokens)))) (w .need-is) ∙ no-room (numberOf (c .args .site)) (textOf (c .args .path .now)) (partOf (c .args .self)) _ (count-is windowOf (c .args .self .windows)) (omega arith)
   ];
   out = refl;
