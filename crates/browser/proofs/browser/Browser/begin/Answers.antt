@@ -44,9 +44,9 @@ returns c =
     let after = placed-there ws i (c .index-2 .result .now) y (c .index-2 .ensures) inside in
     let site = c .site-site .ensures ∙ ap (λ (z : Window). windowOf z .site) first in
     let act = c .deed-of-deed .ensures
-        ∙ ap (λ (z : Window). actBy (doneIn outcome (windowOf z .state .memory))) after
-        ∙ c .step-outcome .ensures .act
-        ∙ ap (λ n. actOf (byMachine n) (windowOf x)) count in
+    ∙ ap (λ (z : Window). actBy (doneIn outcome (windowOf z .state .memory))) after
+    ∙ c .step-outcome .ensures .act
+    ∙ ap (λ n. actOf (byMachine n) (windowOf x)) count in
     let steps = c .step-outcome .ensures .window ∙ ap (λ n. stepped (byMachine n) (windowOf x)) count in
     let ran = c .step-outcome .ensures .outcome ∙ ap (λ n. outcomeIn n (windowOf x .state) (toldNow (windowOf x))) count in
     let half = first-half windowOf (scriptsIn b) ws (partOf b .tokens) (partOf b .kept) i x y (numberOf (c .site-site .result)) (deedOf (c .deed-of-deed .result)) at-i site act steps inside in
