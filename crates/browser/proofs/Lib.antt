@@ -1,3 +1,4 @@
 pub mod Changes
-pub mod Replies
+pub mod Parts
 pub mod Turns
+pub mod Replies
