@@ -1,4 +1,4 @@
--- A request is written; a page is asked for, and begins in a new window; its faults are numbered. Assumes nothing.
+-- A request is written, and an answer comes; a page is asked for, and begins in a new window; its faults are numbered. Assumes nothing.
 use mathlib.Core.Path.{_≡_, refl, sym, ap, _∙_}
 use mathlib.Core.Bool.{cond}
 use mathlib.Core.List.{List, [], _∷_, _++_, map}
@@ -11,17 +11,19 @@ use Rattle.std.specs.declared.result.Result.{Result}
 use Rattle.std.specs.declared.result.Result.the-variants.{Ok, Err}
 use Rattle.std.proofs.shelf.Lists.{map-push}
 use Rattle.std.proofs.shelf.Tests.{lt-ltb, le-ltb, cond-true, cond-false}
+use Rattle.answers.specs.Answers.{readAnswer}
 use Rattle.bytes.specs.Buffers.{written, count}
 use Rattle.requests.specs.Requests.{Asking}
 use Rattle.requests.specs.Written.{requestText, canWrite}
 use Rattle.scripts.specs.declared.Step.{Step}
 use Rattle.scripts.specs.declared.Unreadable.{Unreadable}
 use Rattle.pages.specs.Sites.{Bytes, Request}
-use Rattle.pages.specs.Browser.{Part, pageNeeded}
-use Rattle.windows.specs.Scripts.{faultIn}
+use Rattle.machine.specs.Script.{State}
+use Rattle.pages.specs.Browser.{Part, pageNeeded, repliedTo}
+use Rattle.windows.specs.Scripts.{faultIn, byMachine}
 use Rattle.browser.specs.Ends.{requestWritten, requestCount}
-use Rattle.browser.specs.Halves.{stepsFault, unreadableNumber}
-use Rattle.browser.specs.Wire.{SiteTable, askingOf}
+use Rattle.browser.specs.Halves.{stepsFault, unreadableNumber, serverOutsTo, readFault}
+use Rattle.browser.specs.Wire.{SiteTable, askingOf, kindFor, replyOf}
 
 -- the number of a fault in a page, and 0 for none
 pub steps-fault : (r : Result (List Step) Unreadable) → unreadableNumber (faultIn r) ≡ stepsFault r
@@ -51,3 +53,14 @@ module _ (table : SiteTable) (o : Option Request) (q : Request) (a : Asking) (ro
 
   pub is-written : cond (canWrite a) (written (requestText a) room) room ≡ requestWritten table o room
   is-written = ap (λ z. cond (canWrite z) (written (requestText z) room) room) is ∙ ap (λ z. requestWritten table z room) (sym some)
+
+-- an answer comes to who asked, and it is known who did
+module _ (table : SiteTable) (q : Request) (bs : Bytes) (o p : Option ℕ) (same : o ≡ p) where
+  pub part-to : (i : ℕ) (b : Part State) → repliedTo (byMachine (length table)) i o q (replyOf table (kindFor o) bs) b ≡ repliedTo (byMachine (length table)) i p q (replyOf table (kindFor p) bs) b
+  part-to i b = ap (λ z. repliedTo (byMachine (length table)) i z q (replyOf table (kindFor z) bs) b) same
+
+  pub outs-to : serverOutsTo o (q .site) (replyOf table (kindFor o) bs) ≡ serverOutsTo p (q .site) (replyOf table (kindFor p) bs)
+  outs-to = ap (λ z. serverOutsTo z (q .site) (replyOf table (kindFor z) bs)) same
+
+  pub fault-to : readFault o (readAnswer (kindFor o) bs) ≡ readFault p (readAnswer (kindFor p) bs)
+  fault-to = ap (λ z. readFault z (readAnswer (kindFor z) bs)) same
