@@ -21,10 +21,10 @@ use Rattle.machine.specs.declared.Outcome.the-variants as out
 use Rattle.machine.specs.Acts.{Acts}
 use Rattle.machine.specs.Limits.{part, allowed, isPath}
 use Rattle.machine.specs.Script.{state, actionOf, doneIn, actionIn, stateAfter}
-use Rattle.machine.specs.Turn.{Turned, turnBy, turnOf}
+use Rattle.machine.specs.Turn.{Turned, turned, turnBy, turnOf}
 use Rattle.pages.specs.Sites.{Bytes, Act, Idle, Asks, Says, Keeps, Looks, Opens}
 use Rattle.pages.specs.Browser.{named}
-use Rattle.windows.specs.Scripts.{toldOf, machineTold, bytesTold, actBy, actIn, stateIn, InLimits}
+use Rattle.windows.specs.Scripts.{toldOf, machineTold, bytesTold, actBy, actIn, outcomeIn, stateIn, InLimits}
 
 -- told in other words, a script is told the same
 told-by : (st : Status) (t : MachineTold) (bs : Bytes) (k n : ℕ) (script : List Step) (m : Machine) (s : List ℕ)
@@ -83,6 +83,11 @@ module _ (t : MachineTold) (bs : Bytes) (n : ℕ) (m : Machine) (s : List ℕ) (
   state-so m' s' h =
       let P : List Step → Type 0 = λ sc. state m' s' sc ≡ stateAfter n (state m s sc) t bs in
       subst P same h ∙ ap (λ (x : Turned). state (x .machine) (x .memory) steps) (sym (told-same t bs n steps m s))
+
+  pub outcome-so : (r : Outcome) (m' : Machine) (s' : List ℕ) → turned r m' s' ≡ turnOf n script t bs m s → r ≡ outcomeIn n (state m s steps) (toldOf t bs)
+  outcome-so r m' s' h =
+      let P : List Step → Type 0 = λ sc. turned r m' s' ≡ turnOf n sc t bs m s in
+      ap (λ (x : Turned). x .outcome) (subst P same h ∙ sym (told-same t bs n steps m s))
 
   pub act-so : (r : Outcome) (s' : List ℕ) → InLimits n (actBy (doneIn r s')) → doneIn r s' ≡ actionIn n (state m s script) t bs
       → actBy (doneIn r s') ≡ named n (actIn n (state m s steps) (toldOf t bs))

@@ -16,7 +16,8 @@ use Rattle.scripts.specs.Page.{pageIn}
 use Rattle.machine.specs.declared.Told.{Told as MachineTold}
 use Rattle.machine.specs.declared.Told.the-variants as by
 use Rattle.machine.specs.Limits.{isPath}
-use Rattle.machine.specs.Script.{State, initial, Action, nothing, asks, says, keeps, looks, opens, actionIn, stateAfter}
+use Rattle.machine.specs.declared.Outcome.{Outcome}
+use Rattle.machine.specs.Script.{State, initial, Action, nothing, asks, says, keeps, looks, opens, turnFrom, actionIn, stateAfter}
 use Rattle.pages.specs.Sites.{Bytes, Scripts, Act, Idle, Asks, Says, Keeps, Looks, Opens, Told, Silence, Begun, Answer, Barred, Heard, Kept}
 
 -- What a script is told, with the bytes that go with it. Silence and a barred answer have none.
@@ -79,6 +80,10 @@ unreadableIn (Some page) = faultIn (pageIn page)
 -- What a script does in a state, where so many sites are named, when it is told something.
 abbrev pub actIn : ℕ → State → Told → Act
 actIn n x told = actBy (actionIn n x (machineTold told) (bytesTold told))
+
+-- What comes of its run.
+abbrev pub outcomeIn : ℕ → State → Told → Outcome
+outcomeIn n x told = turnFrom n x (machineTold told) (bytesTold told) .outcome
 
 -- Its next state.
 abbrev pub stateIn : ℕ → State → Told → State

@@ -5,7 +5,7 @@ ghost use Rattle.machine.specs.Script.{initial, doneIn};
 ghost use Rattle.scripts.specs.Scripts.{stepsOf};
 ghost use Rattle.pages.specs.Browser.{named};
 ghost use Rattle.std.specs.Orderings.{Decides};
-ghost use Rattle.windows.specs.Scripts.{toldOf, actBy, actIn, stateIn, InLimits};
+ghost use Rattle.windows.specs.Scripts.{toldOf, actBy, actIn, outcomeIn, stateIn, InLimits};
 ghost use Rattle.windows.specs.Windows.{stateOf};
 use machine::Machine;
 use machine::Outcome;
@@ -34,6 +34,7 @@ impl Process {
 
     // The script's turn, where so many sites are named.
     pub(crate) fn turn(&mut self, sites: u32, told: Told, bytes: &[u8]) -> Outcome
+        ensures outcome { λ r. ⌜ r ≡ outcomeIn sites (stateOf (now (self .entry))) (toldOf told (now (bytes .entry))) ⌝ }
         ensures state { λ _. ⌜ stateOf (now (self .exit)) ≡ stateIn sites (stateOf (now (self .entry))) (toldOf told (now (bytes .entry))) ⌝ }
         ensures act { λ r. ⌜ actBy (doneIn r (stateOf (now (self .exit)) .memory)) ≡ named sites (actIn sites (stateOf (now (self .entry))) (toldOf told (now (bytes .entry)))) ⌝ }
         ensures limits { λ r. ⌜ InLimits sites (actBy (doneIn r (stateOf (now (self .exit)) .memory))) ⌝ }

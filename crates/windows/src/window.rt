@@ -5,9 +5,9 @@ ghost use Rattle.machine.specs.Script.{doneIn};
 ghost use Rattle.bounded.specs.Texts.{textOf};
 ghost use Rattle.bounded.specs.Numbers.{numberOf};
 ghost use Rattle.scripts.specs.Scripts.{stepsOf};
-ghost use Rattle.pages.specs.Browser.{hears as hearing, actOf, stepped};
+ghost use Rattle.pages.specs.Browser.{hears as hearing, toldNow, actOf, stepped};
 ghost use Rattle.windows.specs.Queues.{wordOf};
-ghost use Rattle.windows.specs.Scripts.{actBy, byMachine, InLimits};
+ghost use Rattle.windows.specs.Scripts.{actBy, byMachine, outcomeIn, InLimits};
 ghost use Rattle.windows.specs.Windows.{windowOf, opened, tells as telling};
 use crate::process::Process;
 use crate::queue::Queue;
@@ -87,6 +87,7 @@ impl Window {
     // The window's turn, where so many sites are named: its script is told what comes of the window's own doing, else
     // the oldest word, else nothing. That is taken away, whether the script waits for it or not.
     pub fn step(&mut self, sites: u32) -> Outcome
+        ensures outcome { λ r. ⌜ r ≡ outcomeIn sites (windowOf (now (self .entry)) .state) (toldNow (windowOf (now (self .entry)))) ⌝ }
         ensures window { λ _. ⌜ windowOf (now (self .exit)) ≡ stepped (byMachine sites) (windowOf (now (self .entry))) ⌝ }
         ensures act { λ r. ⌜ actBy (doneIn r (windowOf (now (self .exit)) .state .memory)) ≡ actOf (byMachine sites) (windowOf (now (self .entry))) ⌝ }
         ensures limits { λ r. ⌜ InLimits sites (actBy (doneIn r (windowOf (now (self .exit)) .state .memory))) ⌝ }

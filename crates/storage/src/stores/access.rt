@@ -53,7 +53,8 @@ impl Stores {
 
     // What the site keeps.
     pub fn look(&self, site: SiteNumber) -> &[u8]
-        ensures { λ r. ⌜ now r ≡ storesOf (now (self .entry)) (numberOf site) ⌝ }
+        ensures is { λ r. ⌜ now r ≡ storesOf (now (self .entry)) (numberOf site) ⌝ }
+        ensures short { λ r. ⌜ length (now r) ≤ 4096 ⌝ }
     {
         let place = site.number() as usize;
         let start = place * 4096;

@@ -1,4 +1,4 @@
-use Rattle.windows.proofs.Turns.{done-in-limits, state-so, act-so}
+use Rattle.windows.proofs.Turns.{done-in-limits, state-so, outcome-so, act-so}
 use Rattle.windows.proofs.process.Process.turn.Needs as need
 
 pub returns : need.returns
@@ -12,6 +12,7 @@ returns c =
     let left = c .turn .last .memory in
     let limits = done-in-limits outcome n _ _ left (c .turn .ensures .acts) in
     record {
+      outcome = outcome-so told bs n m s _ _ (c .steps .ensures .steps) outcome _ _ (c .turn .ensures .turn);
       state = state-so told bs n m s _ _ (c .steps .ensures .steps) _ _ (c .turn .ensures .state);
       act = act-so told bs n m s _ _ (c .steps .ensures .steps) outcome left limits (c .turn .ensures .action);
       limits = limits;

@@ -1,0 +1,5 @@
+pub mod Changes
+pub mod Parts
+pub mod Turns
+pub mod Replies
+pub mod Together
