@@ -66,7 +66,7 @@ pub answer-for : (b : Browser) (need : Need) (bs : Bytes) (o : Option ℕ) (i : 
     × (serverOutsTo o (numberOf (need .site)) (replyOf (sitesIn b) (kindFor o) bs) ≡ serverOutsOf (sitesIn b) (Some (needOf (tokensOf (b .tokens)) need)) bs)
     × (readFault o (readAnswer (kindFor o) bs) ≡ answerFault (Some (needOf (tokensOf (b .tokens)) need)) bs)
 answer-for b need bs o i from = (
-    ap (λ z. repliedTo (scriptsIn b) i z (needOf (tokensOf (b .tokens)) need) (replyOf (sitesIn b) (kindFor z) bs) (partOf b)) (sym from),
-    ap (λ z. serverOutsTo z (numberOf (need .site)) (replyOf (sitesIn b) (kindFor z) bs)) (sym from),
-    ap (λ z. readFault z (readAnswer (kindFor z) bs)) (sym from)
-  )
+  ap (λ z. repliedTo (scriptsIn b) i z (needOf (tokensOf (b .tokens)) need) (replyOf (sitesIn b) (kindFor z) bs) (partOf b)) (sym from),
+  ap (λ z. serverOutsTo z (numberOf (need .site)) (replyOf (sitesIn b) (kindFor z) bs)) (sym from),
+  ap (λ z. readFault z (readAnswer (kindFor z) bs)) (sym from),
+)
