@@ -111,7 +111,13 @@ fn only_a_window_of_the_named_site_hears() -> Result<(), Fail> {
     let w = window(0, &echo())?;
     let message = word(4, b"hi")?;
     // 256 is not 0: the number is not cut to a byte
-    for (named, hears) in [(0, true), (4, false), (1, false), (256, false), (0x1_0000, false)] {
+    for (named, hears) in [
+        (0, true),
+        (4, false),
+        (1, false),
+        (256, false),
+        (0x1_0000, false),
+    ] {
         check_eq(w.hears(named, &message).same(&w), !hears)?;
     }
     Ok(())
@@ -158,7 +164,12 @@ fn a_site_without_a_number_is_not_spoken_to() -> Result<(), Fail> {
 #[test]
 fn a_span_is_cut_at_the_end_of_the_memory() -> Result<(), Fail> {
     let w = window(1, &echo())?;
-    for (from, len, size) in [(0, 4096, 4096), (4095, 2, 1), (4096, 9, 0), (0xffff_ffff, 0xffff_ffff, 0)] {
+    for (from, len, size) in [
+        (0, 4096, 4096),
+        (4095, 2, 1),
+        (4096, 9, 0),
+        (0xffff_ffff, 0xffff_ffff, 0),
+    ] {
         check_eq(w.bytes(Span { from, len }).len(), size)?;
     }
     Ok(())

@@ -34,14 +34,14 @@ returns c =
     c .finish .ensures .server ∙ ap (λ z. serverOutsOf z (requestOf first) bs) same-sites ∙ ap (λ z. serverOutsOf table z bs) (c .begin .ensures .need) in
     record {
       part = c .finish .ensures .part
-      ∙ ap (λ z. finished z (first .window) (requestOf first) bs (partOf (first .browser))) same-sites
-      ∙ ap (λ z. finished table z (requestOf first) bs (partOf (first .browser))) (c .begin .ensures .rest .0)
-      ∙ ap (λ z. finished table i z bs (partOf (first .browser))) (c .begin .ensures .need)
-      ∙ ap (λ z. finished table i asked bs z) (c .begin .ensures .part)
-      ∙ ends-so table i asked bs (begun (scriptsIn (c .args .self)) (TurnOf i) b);
+          ∙ ap (λ z. finished z (first .window) (requestOf first) bs (partOf (first .browser))) same-sites
+          ∙ ap (λ z. finished table z (requestOf first) bs (partOf (first .browser))) (c .begin .ensures .rest .0)
+          ∙ ap (λ z. finished table i z bs (partOf (first .browser))) (c .begin .ensures .need)
+          ∙ ap (λ z. finished table i asked bs z) (c .begin .ensures .part)
+          ∙ ends-so table i asked bs (begun (scriptsIn (c .args .self)) (TurnOf i) b);
       outs = ap (λ z. outsOf z ++ outsOf (last .server)) (c .finish .ensures .page)
-      ∙ ap (λ z. z ++ outsOf (last .server)) (c .begin .ensures .out)
-      ∙ ap (λ z. pageOutsOf (scriptsIn (c .args .self)) found b ++ z) (server ∙ server-so table asked bs)
-      ∙ sym (outs-so (length table) found b (replyIn table asked bs));
+          ∙ ap (λ z. z ++ outsOf (last .server)) (c .begin .ensures .out)
+          ∙ ap (λ z. pageOutsOf (scriptsIn (c .args .self)) found b ++ z) (server ∙ server-so table asked bs)
+          ∙ sym (outs-so (length table) found b (replyIn table asked bs));
       sites = c .finish .ensures .sites ∙ same-sites;
     }
