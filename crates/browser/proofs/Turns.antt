@@ -9,6 +9,7 @@ use lib.ListN.{length, getD, set}
 use Rattle.std.proofs.shelf.Lists.{getD-set-same}
 use Rattle.std.specs.declared.option.Option.{Option}
 use Rattle.std.specs.declared.option.Option.the-variants.{Some, None}
+use Rattle.machine.specs.declared.Outcome.{Outcome}
 use Rattle.machine.specs.Script.{State}
 use Rattle.machine.specs.Turn as turn
 use Rattle.pages.specs.Sites.{Bytes, Scripts, Request, Act, Idle, Asks, Says, Keeps, Looks, Opens}
@@ -67,29 +68,34 @@ module _ {W : Type 0} (g : W → Window State) (c : Scripts State) (ws : List W)
   put : map g (set ws i y) ≡ change i (stepped c) (map g ws)
   put = change-set g (stepped c) ws i x y at-i steps here
 
-  begun-is : acted i s a (with-windows (map g (set ws i y)) before) ≡ begunBy c i (nth i (map g ws)) before
-  begun-is =
-      ap (λ z. acted i z a (with-windows (map g (set ws i y)) before)) site
+  begun-is : (p : Part State) → p ≡ acted i s a (with-windows (map g (set ws i y)) before) → p ≡ begunBy c i (nth i (map g ws)) before
+  begun-is p e = e
+      ∙ ap (λ z. acted i z a (with-windows (map g (set ws i y)) before)) site
       ∙ ap (λ z. acted i (g x .site) z (with-windows (map g (set ws i y)) before)) act
       ∙ ap (λ z. acted i (g x .site) (actOf c (g x)) (with-windows z before)) put
       ∙ ap (λ z. begunBy c i z before) (sym found)
 
-  needs-is : needsBy s a (with-windows (map g (set ws i y)) before) ≡ needsOf c (nth i (map g ws)) before
-  needs-is =
-      needs-stay (map g (set ws i y)) (map g ws) before s a (ap length put ∙ length-change i (stepped c) (map g ws))
+  needs-is : (q : Option Request) → q ≡ needsBy s a (with-windows (map g (set ws i y)) before) → q ≡ needsOf c (nth i (map g ws)) before
+  needs-is q e = e
+      ∙ needs-stay (map g (set ws i y)) (map g ws) before s a (ap length put ∙ length-change i (stepped c) (map g ws))
       ∙ ap (λ z. needsBy z a before) site
       ∙ ap (λ z. needsBy (g x .site) z before) act
       ∙ ap (λ z. needsOf c z before) (sym found)
 
-  outs-is : pageOuts (map g (set ws i y)) s a ≡ pageOutsOf c (nth i (map g ws)) before
-  outs-is =
-      ap (λ z. pageOuts z s a) put
+  outs-is : (os : List Out) → os ≡ pageOuts (map g (set ws i y)) s a → os ≡ pageOutsOf c (nth i (map g ws)) before
+  outs-is os e = e
+      ∙ ap (λ z. pageOuts z s a) put
       ∙ outs-stay c (map g ws) i s a
       ∙ ap (λ z. pageOuts (map g ws) z a) site
       ∙ ap (λ z. pageOuts (map g ws) (g x .site) z) act
       ∙ ap (λ z. pageOutsOf c z before) (sym found)
 
-  pub first-half : (acted i s a (with-windows (map g (set ws i y)) before) ≡ begunBy c i (nth i (map g ws)) before)
-      × ((needsBy s a (with-windows (map g (set ws i y)) before) ≡ needsOf c (nth i (map g ws)) before)
-      × ((pageOuts (map g (set ws i y)) s a ≡ pageOutsOf c (nth i (map g ws)) before) × (Some (g x) ≡ nth i (map g ws))))
-  first-half = (begun-is, (needs-is, (outs-is, sym found)))
+  fault-is : (f n : ℕ) (r : Outcome) → f ≡ turn.faultNumber r → r ≡ outcomeIn n (g x .state) (toldNow (g x)) → f ≡ runFault n (nth i (map g ws))
+  fault-is f n r e o = e ∙ ap turn.faultNumber o ∙ ap (runFault n) (sym found)
+
+  -- what is done, what is asked for, what is let out, and the fault
+  pub first-half : ((p : Part State) → p ≡ acted i s a (with-windows (map g (set ws i y)) before) → p ≡ begunBy c i (nth i (map g ws)) before)
+      × (((q : Option Request) → q ≡ needsBy s a (with-windows (map g (set ws i y)) before) → q ≡ needsOf c (nth i (map g ws)) before)
+      × (((os : List Out) → os ≡ pageOuts (map g (set ws i y)) s a → os ≡ pageOutsOf c (nth i (map g ws)) before)
+      × ((f n : ℕ) (r : Outcome) → f ≡ turn.faultNumber r → r ≡ outcomeIn n (g x .state) (toldNow (g x)) → f ≡ runFault n (nth i (map g ws)))))
+  first-half = (begun-is, (needs-is, (outs-is, fault-is)))

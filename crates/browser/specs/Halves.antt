@@ -46,6 +46,11 @@ abbrev pub runFault : ℕ → Option (Window State) → ℕ
 runFault n None = 0
 runFault n (Some x) = turn.faultNumber (outcomeIn n (x .state) (toldNow x))
 
+-- The number of a fault in a page, and 0 for none.
+abbrev pub unreadableNumber : Option Unreadable → ℕ
+unreadableNumber None = 0
+unreadableNumber (Some fault) = page.faultNumber fault
+
 -- A page that can't be read has a number, where a page was asked for.
 abbrev pub stepsFault : Result (List Step) Unreadable → ℕ
 stepsFault (Ok steps) = 0

@@ -9,6 +9,7 @@ use windows::Window;
 mod acts;
 mod replies;
 mod turns;
+mod wire;
 
 #[derive(Drop)]
 pub struct Browser {

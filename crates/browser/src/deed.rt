@@ -15,11 +15,24 @@ use windows::Window;
 #[derive(Clone, Copy)]
 pub(crate) enum Deed {
     Nothing,
-    Ask { to: SiteNumber, path: Text<255>, body: Text<1024> },
-    Say { window: u32, to: SiteNumber, what: Text<1024> },
-    Keep { what: Text<4096> },
+    Ask {
+        to: SiteNumber,
+        path: Text<255>,
+        body: Text<1024>,
+    },
+    Say {
+        window: u32,
+        to: SiteNumber,
+        what: Text<1024>,
+    },
+    Keep {
+        what: Text<4096>,
+    },
     Look,
-    Open { to: SiteNumber, path: Text<255> },
+    Open {
+        to: SiteNumber,
+        path: Text<255>,
+    },
 }
 
 // What came of the window's run, where so many sites are named.

@@ -69,7 +69,8 @@ impl Browser {
         ensures rest { λ _. ⌜ now (self .exit) .tokens ≡ now (self .entry) .tokens ⌝ ∗ ⌜ now (self .exit) .table ≡ now (self .entry) .table ⌝ }
     {
         if window < self.windows.len() {
-            self.windows[window].tell(Told::Kept, self.stores.look(site));
+            self.windows[window]
+                .tell(Told::Kept, self.stores.look(site));
         }
     }
 
@@ -94,7 +95,14 @@ impl Browser {
                 to,
                 what,
             } => {
-                self.say(other, to, &Word { from: site, text: what });
+                self.say(
+                    other,
+                    to,
+                    &Word {
+                        from: site,
+                        text: what,
+                    },
+                );
                 None
             }
             Deed::Keep { what } => {
@@ -129,18 +137,30 @@ impl Browser {
                     return None;
                 }
                 let what = What::Asked { path, body };
-                Some(Out { from: site, to, what })
+                Some(Out {
+                    from: site,
+                    to,
+                    what,
+                })
             }
             Deed::Say { window, to, what } => {
                 if to.number() == site.number() || !self.is_of(window, to) {
                     return None;
                 }
                 let what = What::Said { window, what };
-                Some(Out { from: site, to, what })
+                Some(Out {
+                    from: site,
+                    to,
+                    what,
+                })
             }
             Deed::Open { to, path } => {
                 let what = What::Opened { path };
-                Some(Out { from: site, to, what })
+                Some(Out {
+                    from: site,
+                    to,
+                    what,
+                })
             }
             _ => None,
         }

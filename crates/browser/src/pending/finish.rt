@@ -1,22 +1,18 @@
 // The second half of an event.
 ghost use mathlib.Core.Path.{_≡_};
-ghost use mathlib.Core.Bool.{cond};
-ghost use lib.Dec.{eqb};
 ghost use Rattle.std.specs.Options.{mapped};
-ghost use Rattle.bytes.specs.Buffers.{written, count};
-ghost use Rattle.requests.specs.Written.{requestText, canWrite};
-ghost use Rattle.storage.specs.Storage.{tokensOf};
 ghost use Rattle.browser.specs.Ends.{requestOf, finished, serverOutsOf, faultsOf, requestWritten, requestCount};
-ghost use Rattle.browser.specs.Parts.{partOf, sitesIn, scriptsIn};
-ghost use Rattle.browser.specs.Values.{needOf, outsOf};
+ghost use Rattle.browser.specs.Parts.{partOf, sitesIn};
+ghost use Rattle.browser.specs.Values.{outsOf};
 use super::Finished;
 use super::Pending;
-use requests::Request;
 use requests::write::write_request;
 
 impl Pending {
     // The site whose server is asked, if one is.
-    pub fn asks(&self) -> Option<u8> {
+    pub fn asks(&self) -> Option<u8>
+        ensures { λ r. ⌜ r ≡ mapped (λ q. q .site) (requestOf (now (self .entry))) ⌝ }
+    {
         match self.need {
             Some(need) => Some(need.site.number()),
             None => None,
@@ -28,21 +24,10 @@ impl Pending {
         ensures count { λ r. ⌜ r ≡ requestCount (sitesIn (now (self .entry) .browser)) (requestOf (now (self .entry))) (now (room .entry)) ⌝ }
         ensures room { λ _. ⌜ now (room .exit) ≡ requestWritten (sitesIn (now (self .entry) .browser)) (requestOf (now (self .entry))) (now (room .entry)) ⌝ }
     {
-        let Some(need) = self.need else {
+        let Some(need) = &self.need else {
             return None;
         };
-        let origin = match need.from {
-            Some(from) => Some(self.browser.site(from)),
-            None => None,
-        };
-        let request = Request {
-            site: self.browser.site(need.site),
-            path: need.path.as_slice(),
-            origin,
-            token: self.browser.tokens.get(need.site),
-            body: need.body.as_slice(),
-        };
-        write_request(room, request)
+        write_request(room, self.browser.asking(need))
     }
 
     // Takes the bytes of the answer, which say nothing where no server was asked, and gives the browser back.
@@ -68,10 +53,7 @@ impl Pending {
                 fault,
             };
         };
-        let replied = match need.from {
-            Some(from) => browser.answered(window as usize, &need, from, answer),
-            None => browser.opened(&need, answer),
-        };
+        let replied = browser.reply(window as usize, &need, answer);
         Finished {
             browser,
             page: out,

@@ -5,7 +5,6 @@ use lib.ListN.{length}
 use Rattle.std.specs.Of.Vec.{vec-items}
 use Rattle.bounded.specs.Numbers.{numberOf}
 use Rattle.machine.specs.Script.{doneIn}
-use Rattle.machine.specs.Turn.{faultNumber}
 use Rattle.pages.specs.Browser.{toldNow, actOf, stepped, begunBy, needsOf}
 use Rattle.storage.specs.Tables.{tableOf}
 use Rattle.windows.specs.declared.window.Window.{Window}
@@ -45,16 +44,16 @@ returns c =
     let after = placed-there ws i (c .index-2 .result .now) y (c .index-2 .ensures) inside in
     let site = c .site-site .ensures ∙ ap (λ (z : Window). windowOf z .site) first in
     let act = c .deed-of-deed .ensures
-        ∙ ap (λ (z : Window). actBy (doneIn outcome (windowOf z .state .memory))) after
-        ∙ c .step-outcome .ensures .act
-        ∙ ap (λ n. actOf (byMachine n) (windowOf x)) count in
+    ∙ ap (λ (z : Window). actBy (doneIn outcome (windowOf z .state .memory))) after
+    ∙ c .step-outcome .ensures .act
+    ∙ ap (λ n. actOf (byMachine n) (windowOf x)) count in
     let steps = c .step-outcome .ensures .window ∙ ap (λ n. stepped (byMachine n) (windowOf x)) count in
     let ran = c .step-outcome .ensures .outcome ∙ ap (λ n. outcomeIn n (windowOf x .state) (toldNow (windowOf x))) count in
     let half = first-half windowOf (scriptsIn b) ws (partOf b .tokens) (partOf b .kept) i x y (numberOf (c .site-site .result)) (deedOf (c .deed-of-deed .result)) at-i site act steps inside in
     record {
-      part = c .act-need .ensures .part ∙ half .0;
-      need = c .act-need .ensures .need ∙ half .1 .0;
-      out = c .page-out-out .ensures ∙ half .1 .1 .0;
-      fault = c .fault .ensures ∙ ap faultNumber ran ∙ ap (runFault (length (sitesIn b))) (half .1 .1 .1);
+      part = half .0 _ (c .act-need .ensures .part);
+      need = half .1 .0 _ (c .act-need .ensures .need);
+      out = half .1 .1 .0 _ (c .page-out-out .ensures);
+      fault = half .1 .1 .1 _ (length (sitesIn b)) outcome (c .fault .ensures) ran;
       rest = (refl, ap tableOf (c .act-need .ensures .rest));
     }

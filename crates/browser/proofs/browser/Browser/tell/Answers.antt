@@ -1,22 +1,10 @@
-use mathlib.Core.Path.{refl, ap}
+use mathlib.Core.Path.{refl}
 use native.Mathlib.Omega.{arith}
-use Rattle.std.specs.Of.Vec.{vec-items}
-use Rattle.pages.specs.Browser.{with-windows}
-use Rattle.windows.specs.Windows.{windowOf}
-use Rattle.browser.specs.Parts.{partOf}
-use Rattle.browser.proofs.Changes.{change-set, change-past}
+use Rattle.browser.proofs.Parts.{window-changed, no-window}
 use Rattle.browser.proofs.browser.Browser.tell.Needs as need
 
 pub returns-then-window-len : need.returns-then-window-len
-returns-then-window-len c = record {
-  part = ap (λ z. with-windows z (partOf (c .args .self .now))) (change-set windowOf _ (vec-items (c .args .self .now .windows)) (c .args .window) _ _ (c .index-mut .ensures .value) (c .tell .ensures) (omega arith));
-  count = refl;
-  rest = (refl, refl);
-}
+returns-then-window-len c = record { part = window-changed (c .args .self .now) _ (c .args .window) _ _ (c .index-mut .ensures .value) (c .tell .ensures) (omega arith); count = refl; rest = (refl, refl) }
 
 pub returns-else-window-len : need.returns-else-window-len
-returns-else-window-len c = record {
-  part = ap (λ z. with-windows z (partOf (c .args .self .now))) (change-past windowOf _ (vec-items (c .args .self .now .windows)) (c .args .window) (omega arith));
-  count = refl;
-  rest = (refl, refl);
-}
+returns-else-window-len c = record { part = no-window (c .args .self .now) _ (c .args .window) (omega arith); count = refl; rest = (refl, refl) }
