@@ -104,13 +104,7 @@ fn steps(heap: Global, own: u32, deeds: &[Deed]) -> Result<Vec<Step>, Fail> {
 }
 
 // Writes an answer with the page to the front of the room, and says how long it is.
-fn write_page(
-    heap: Global,
-    own: u32,
-    deeds: &[Deed],
-    token: Option<&[u8]>,
-    room: &mut [u8],
-) -> Result<usize, Fail> {
+fn write_page(heap: Global, own: u32, deeds: &[Deed], room: &mut [u8]) -> Result<usize, Fail> {
     let steps = steps(heap, own, deeds)?;
     let Some(script) = Script::new(steps.as_slice()) else {
         return Err(Fail::new("too many steps"));
@@ -120,7 +114,7 @@ fn write_page(
     check(n <= 768)?;
     let answer = Response {
         code: 200,
-        token,
+        token: None,
         allowed: None,
         body: &page[0..n],
     };
@@ -134,16 +128,15 @@ pub(crate) fn finish_page(
     pending: Pending,
     own: u32,
     deeds: &[Deed],
-    token: Option<&[u8]>,
 ) -> Result<Finished, Fail> {
     let mut answer = [0u8; 1024];
-    let n = write_page(heap, own, deeds, token, &mut answer)?;
+    let n = write_page(heap, own, deeds, &mut answer)?;
     check(n <= 1024)?;
     Ok(pending.finish(&answer[0..n]))
 }
 
 // A browser for the sites a, b and c, which have the numbers 0, 1 and 2. It has no windows.
-pub(crate) fn browser(heap: Global) -> Result<Browser, Fail> {
+pub(crate) fn three_sites(heap: Global) -> Result<Browser, Fail> {
     let mut table = Table::new();
     for host in [b"a.example", b"b.example", b"c.example"] {
         let site = Site { host, port: 443 };
@@ -172,12 +165,12 @@ pub(crate) fn with_window(
     deeds: &[Deed],
 ) -> Result<Browser, Fail> {
     let pending = opening(browser, site)?;
-    let done = finish_page(heap, pending, site, deeds, None)?;
+    let done = finish_page(heap, pending, site, deeds)?;
     check(done.fault == 0)?;
     Ok(done.browser)
 }
 
-// A server's answer with no bytes, for nobody else to see.
+// A server's answer with no bytes.
 pub(crate) fn ok() -> &'static [u8] {
     b"HTTP/1.1 200 \r\ncontent-length: 0\r\n\r\n"
 }
@@ -185,6 +178,11 @@ pub(crate) fn ok() -> &'static [u8] {
 // A turn of a window in which no server is asked for anything that matters.
 pub(crate) fn turn(browser: Browser, window: u32) -> Browser {
     browser.begin(window).finish(ok()).browser
+}
+
+// A server's answer for nobody else to see.
+pub(crate) fn hi() -> &'static [u8] {
+    b"HTTP/1.1 200 \r\ncontent-length: 2\r\n\r\nhi"
 }
 
 // What is asked of a server is these bytes.
@@ -209,10 +207,14 @@ pub(crate) fn check_told(browser: Browser, window: u32, told: &[u8]) -> Result<B
     Ok(turn(pending.finish(ok()).browser, window))
 }
 
-// What is let out, from which site and to which, in short.
+pub(crate) fn nothing() -> (u8, u8, u8) {
+    (b'-', 0, 0)
+}
+
+// What is let out, in short: what, from which site, and to which.
 pub(crate) fn out(out: Option<Out>) -> (u8, u8, u8) {
     let Some(out) = out else {
-        return (b'-', 0, 0);
+        return nothing();
     };
     let what = match out.what {
         What::Asked { path: _, body: _ } => b'a',
@@ -221,4 +223,15 @@ pub(crate) fn out(out: Option<Out>) -> (u8, u8, u8) {
         What::Let { code: _, body: _ } => b'l',
     };
     (what, out.from.number(), out.to.number())
+}
+
+// A turn of a window in which no server is asked and nothing is let out, with this fault.
+pub(crate) fn quiet_turn(browser: Browser, window: u32, fault: u8) -> Result<Browser, Fail> {
+    let pending = browser.begin(window);
+    check(pending.asks().is_none())?;
+    let done = pending.finish(ok());
+    check_eq(out(done.page), nothing())?;
+    check_eq(out(done.server), nothing())?;
+    check_eq(done.fault, fault)?;
+    Ok(done.browser)
 }
