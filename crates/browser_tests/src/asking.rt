@@ -1,11 +1,10 @@
 // Askings: what a page is told of an answer, and what goes with the next request.
 use crate::pages::ask;
+use crate::pages::check_out;
 use crate::pages::check_request;
 use crate::pages::check_told;
 use crate::pages::hi;
-use crate::pages::nothing;
 use crate::pages::open;
-use crate::pages::out;
 use crate::pages::quiet_turn;
 use crate::pages::say;
 use crate::pages::three_sites;
@@ -13,22 +12,23 @@ use crate::pages::with_window;
 use std::alloc::Global;
 use std::test::*;
 
-// A page of a asks a site's server: it is told this, the server lets that out, and the fault has this number.
+// A page of a asks a site's server, which answers so: what the page is told, what it and the server let out, and the
+// number of the fault.
 #[test]
 fn a_page_is_told_what_it_may_see(rt: LibcRuntime) -> Result<(), Fail> {
     let heap = rt.alloc();
-    let to_b = (b'a', 0, 1);
-    let by_b = (b'l', 1, 0);
-    let cases: [(u32, &[u8], &[u8], (u8, u8, u8), (u8, u8, u8), u8); 7] = [
-        (0, hi(), b"hi\x02\x00\xc8", nothing(), nothing(), 0),
+    let to_b: &[u8] = b"a\x00\x01!";
+    let by_b: &[u8] = b"\xc8\x01\x00hi";
+    let cases: [(u32, &[u8], &[u8], &[u8], &[u8], u8); 7] = [
+        (0, hi(), b"hi\x02\x00\xc8", b"", b"", 0),
         // b allows nobody, c, a, everybody
-        (1, hi(), b"\x03\x01\x00", to_b, nothing(), 0),
+        (1, hi(), b"\x03\x01\x00", to_b, b"", 0),
         (
             1,
-            b"HTTP/1.1 200 \r\naccess-control-allow-origin: https://c.example\r\ncontent-length: 2\r\n\r\nhi",
+            b"HTTP/1.1 200 \r\naccess-control-allow-origin: https://a.example:8443\r\ncontent-length: 2\r\n\r\nhi",
             b"\x03\x01\x00",
             to_b,
-            nothing(),
+            b"",
             0,
         ),
         (
@@ -48,14 +48,14 @@ fn a_page_is_told_what_it_may_see(rt: LibcRuntime) -> Result<(), Fail> {
             0,
         ),
         // what can't be read is barred, also from the site's own page
-        (0, b"hi", b"\x03\x00\x00", nothing(), nothing(), 6),
-        (1, b"hi", b"\x03\x01\x00", to_b, nothing(), 6),
+        (0, b"hi", b"\x03\x00\x00", b"", b"", 6),
+        (1, b"hi", b"\x03\x01\x00", to_b, b"", 6),
     ];
     for (site, answer, told, page, server, fault) in cases {
         let browser = with_window(heap, three_sites(heap)?, 0, &[ask(site)])?;
         let done = browser.begin(0).finish(answer);
-        check_eq(out(done.page), page)?;
-        check_eq(out(done.server), server)?;
+        check_out(done.page, page)?;
+        check_out(done.server, server)?;
         check_eq(done.fault, fault)?;
         let _browser = check_told(done.browser, 0, told)?;
     }
@@ -84,11 +84,14 @@ fn a_token_goes_with_the_next_request(rt: LibcRuntime) -> Result<(), Fail> {
         ),
     ];
     for (answer, request) in cases {
-        let browser = with_window(heap, three_sites(heap)?, 0, &[ask(1), ask(1)])?;
+        let browser = with_window(heap, three_sites(heap)?, 0, &[ask(1), ask(1), ask(1)])?;
         let first = browser.begin(0);
         check_request(&first, without)?;
         let second = first.finish(answer).browser.begin(0);
         check_request(&second, request)?;
+        // an answer that sets none leaves it
+        let third = second.finish(hi()).browser.begin(0);
+        check_request(&third, request)?;
     }
     Ok(())
 }

@@ -1,12 +1,11 @@
 // Windows that are opened.
+use crate::pages::check_out;
 use crate::pages::check_request;
 use crate::pages::check_told;
 use crate::pages::finish_page;
 use crate::pages::hi;
-use crate::pages::nothing;
 use crate::pages::open;
 use crate::pages::opening;
-use crate::pages::out;
 use crate::pages::quiet_turn;
 use crate::pages::three_sites;
 use crate::pages::with_window;
@@ -27,8 +26,8 @@ fn a_page_is_asked_for_in_nobodys_name(rt: LibcRuntime) -> Result<(), Fail> {
         b"HTTP/1.1 200 \r\nset-cookie: k\r\ncontent-length: 24\r\n\r\nPAGE 1\x00\x02\x01\x05\x01\x00\x00\x00\x00\x00\x0a\x00\x04\x04\x00\x00\x00\x01",
     );
     check_eq(done.fault, 0)?;
-    check_eq(out(done.page), (b'o', 0, 1))?;
-    check_eq(out(done.server), nothing())?;
+    check_out(done.page, b"o\x00\x01/")?;
+    check_out(done.server, b"")?;
     let first = done.browser.begin(1);
     check_request(
         &first,
@@ -44,12 +43,12 @@ fn a_17th_window_is_let_out_and_not_opened(rt: LibcRuntime) -> Result<(), Fail> 
         browser = with_window(heap, browser, 2, &[])?;
     }
     let done = finish_page(heap, browser.begin(0), 1, &[])?;
-    check_eq(out(done.page), (b'o', 0, 1))?;
+    check_out(done.page, b"o\x00\x01/")?;
     let browser = check_told(done.browser, 15, b"/\x01\x00\x00")?;
     let pending = browser.begin(0);
     check(pending.asks().is_none())?;
     let done = pending.finish(&[]);
-    check_eq(out(done.page), (b'o', 0, 1))?;
+    check_out(done.page, b"o\x00\x01/")?;
     check(opening(done.browser, 2)?.asks().is_none())
 }
 

@@ -54,6 +54,10 @@ pub(crate) fn look() -> Deed {
     Deed { call: Call::Look, site: 0, window: 0, byte: 0 }
 }
 
+pub(crate) fn idle() -> Deed {
+    Deed { call: Call::Nothing, site: 0, window: 0, byte: 0 }
+}
+
 pub(crate) fn open(site: u32) -> Deed {
     let call = Call::Open { site: 30, path: 22 };
     Deed { call, site, window: 0, byte: 0 }
@@ -135,11 +139,12 @@ pub(crate) fn finish_page(
     Ok(pending.finish(&answer[0..n]))
 }
 
-// A browser for the sites a, b and c, which have the numbers 0, 1 and 2. It has no windows.
+// A browser for the sites a, b and c, which have the numbers 0, 1 and 2. The host of c is that of a. There are no
+// windows.
 pub(crate) fn three_sites(heap: Global) -> Result<Browser, Fail> {
     let mut table = Table::new();
-    for host in [b"a.example", b"b.example", b"c.example"] {
-        let site = Site { host, port: 443 };
+    for (host, port) in [(b"a.example", 443), (b"b.example", 443), (b"a.example", 8443)] {
+        let site = Site { host, port };
         check(table.add(site).is_some())?;
     }
     let browser = Browser::new(heap, table)?;
@@ -207,22 +212,35 @@ pub(crate) fn check_told(browser: Browser, window: u32, told: &[u8]) -> Result<B
     Ok(turn(pending.finish(ok()).browser, window))
 }
 
-pub(crate) fn nothing() -> (u8, u8, u8) {
-    (b'-', 0, 0)
-}
-
-// What is let out, in short: what, from which site, and to which.
-pub(crate) fn out(out: Option<Out>) -> (u8, u8, u8) {
-    let Some(out) = out else {
-        return nothing();
-    };
-    let what = match out.what {
+// What is let out, by a letter, and by its code if it is an answer.
+fn letter(what: &What) -> u8 {
+    match *what {
         What::Asked { path: _, body: _ } => b'a',
         What::Said { window: _, what: _ } => b's',
         What::Opened { path: _ } => b'o',
-        What::Let { code: _, body: _ } => b'l',
+        What::Let { code, body: _ } => (code % 256) as u8,
+    }
+}
+
+fn bytes(what: &What) -> &[u8] {
+    match what {
+        What::Asked { path: _, body } => body.as_slice(),
+        What::Said { window: _, what } => what.as_slice(),
+        What::Opened { path } => path.as_slice(),
+        What::Let { code: _, body } => body.as_slice(),
+    }
+}
+
+// What is let out: nothing, or what, from which site, to which, and the bytes.
+pub(crate) fn check_out(out: Option<Out>, shown: &[u8]) -> Result<(), Fail> {
+    let Some(out) = out else {
+        return check(shown.is_empty());
     };
-    (what, out.from.number(), out.to.number())
+    check(shown.len() >= 3)?;
+    check_eq(letter(&out.what), shown[0])?;
+    check_eq(out.from.number(), shown[1])?;
+    check_eq(out.to.number(), shown[2])?;
+    check(bytes(&out.what) == &shown[3..])
 }
 
 // A turn of a window in which no server is asked and nothing is let out, with this fault.
@@ -230,8 +248,8 @@ pub(crate) fn quiet_turn(browser: Browser, window: u32, fault: u8) -> Result<Bro
     let pending = browser.begin(window);
     check(pending.asks().is_none())?;
     let done = pending.finish(ok());
-    check_eq(out(done.page), nothing())?;
-    check_eq(out(done.server), nothing())?;
+    check_out(done.page, b"")?;
+    check_out(done.server, b"")?;
     check_eq(done.fault, fault)?;
     Ok(done.browser)
 }

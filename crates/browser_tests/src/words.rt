@@ -1,12 +1,12 @@
 // Words from window to window, and what a site keeps.
 use crate::pages::Deed;
 use crate::pages::ask;
+use crate::pages::check_out;
 use crate::pages::check_told;
 use crate::pages::hi;
+use crate::pages::idle;
 use crate::pages::keep;
 use crate::pages::look;
-use crate::pages::nothing;
-use crate::pages::out;
 use crate::pages::quiet_turn;
 use crate::pages::say;
 use crate::pages::three_sites;
@@ -18,18 +18,18 @@ use std::test::*;
 #[test]
 fn a_word_is_for_a_window_of_the_named_site(rt: LibcRuntime) -> Result<(), Fail> {
     let heap = rt.alloc();
-    let cases: [(Deed, (u8, u8, u8), &[u8]); 4] = [
-        (say(1, 1, 5), (b's', 0, 1), b"\x05\x04\x00\x00"),
-        (say(1, 2, 5), nothing(), b"\x00\x00\x00"),
-        (say(257, 1, 5), nothing(), b"\x00\x00\x00"),
-        (say(2, 1, 5), nothing(), b"\x00\x00\x00"),
+    let cases: [(Deed, &[u8], &[u8]); 4] = [
+        (say(1, 1, 5), b"s\x00\x01\x05", b"\x05\x04\x00\x00"),
+        (say(1, 2, 5), b"", b"\x00\x00\x00"),
+        (say(257, 1, 5), b"", b"\x00\x00\x00"),
+        (say(2, 1, 5), b"", b"\x00\x00\x00"),
     ];
     for (deed, page, told) in cases {
         let browser = with_window(heap, three_sites(heap)?, 0, &[deed])?;
         let browser = with_window(heap, browser, 1, &[])?;
         let browser = check_told(browser, 1, b"/\x01\x00\x00")?;
         let done = browser.begin(0).finish(&[]);
-        check_eq(out(done.page), page)?;
+        check_out(done.page, page)?;
         let browser = check_told(done.browser, 1, told)?;
         let _browser = check_told(browser, 0, b"\x00\x00\x00")?;
     }
@@ -50,6 +50,7 @@ fn own_doing_comes_before_words_and_words_in_order(rt: LibcRuntime) -> Result<()
     Ok(())
 }
 
+// One is taken in each turn, also where the page does nothing.
 #[test]
 fn eight_words_wait_and_the_ninth_is_dropped(rt: LibcRuntime) -> Result<(), Fail> {
     let heap = rt.alloc();
@@ -65,28 +66,34 @@ fn eight_words_wait_and_the_ninth_is_dropped(rt: LibcRuntime) -> Result<(), Fail
         say(1, 1, 8),
     ];
     let browser = with_window(heap, three_sites(heap)?, 0, &deeds)?;
-    let mut browser = with_window(heap, browser, 1, &[])?;
+    let mut browser = with_window(heap, browser, 1, &[idle(), idle()])?;
     for _ in 0..9u8 {
         browser = turn(browser, 0);
     }
-    browser = check_told(browser, 1, b"/\x01\x00\x00")?;
-    for i in 0..8u8 {
+    // the path, and the first word
+    browser = quiet_turn(browser, 1, 0)?;
+    browser = quiet_turn(browser, 1, 0)?;
+    for i in 1..8u8 {
         browser = check_told(browser, 1, &[i, 4, 0, 0])?;
     }
     let _browser = check_told(browser, 1, b"\x00\x00\x00")?;
     Ok(())
 }
 
-// b keeps 101 and a keeps 7; b looks, and a looks and says 5 to itself. Nothing is let out.
+// A keep, a look and a word to one's own site let nothing out, and a keep tells the keeper nothing.
 #[test]
 fn a_site_sees_what_it_kept_itself(rt: LibcRuntime) -> Result<(), Fail> {
     let heap = rt.alloc();
-    let browser = with_window(heap, three_sites(heap)?, 0, &[keep(7), look(), say(0, 0, 5)])?;
-    let mut browser = with_window(heap, browser, 1, &[keep(101), look()])?;
-    for window in [1, 0, 1, 0, 0] {
+    let browser = with_window(heap, three_sites(heap)?, 0, &[keep(7)])?;
+    let browser = with_window(heap, browser, 1, &[keep(101), look()])?;
+    let browser = with_window(heap, browser, 0, &[say(0, 0, 5), look()])?;
+    let mut browser = with_window(heap, browser, 2, &[look()])?;
+    for window in [1, 0, 1, 2, 2, 3] {
         browser = quiet_turn(browser, window, 0)?;
     }
+    browser = check_told(browser, 0, &[5, 4, 0, 0])?;
     browser = check_told(browser, 1, &[101, 5, 0, 0])?;
-    let _browser = check_told(browser, 0, &[5, 4, 0, 0])?;
+    browser = check_told(browser, 2, &[7, 5, 0, 0])?;
+    let _browser = check_told(browser, 3, &[5, 0, 0])?;
     Ok(())
 }
