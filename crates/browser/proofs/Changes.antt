@@ -15,13 +15,6 @@ length-change i f [] = refl
 length-change zero f (x ∷ xs) = refl
 length-change (suc i) f (x ∷ xs) = ap suc (length-change i f xs)
 
--- f and g do the same to the element at place i, if there is one
-pub change-same : {A : Type 0} (i : ℕ) (f g : A → A) (xs : List A) → ((x : A) → f x ≡ g x) → change i f xs ≡ change i g xs
-unfolding change
-change-same i f g [] h = refl
-change-same zero f g (x ∷ xs) h = ap (λ z. z ∷ xs) (h x)
-change-same (suc i) f g (x ∷ xs) h = ap (λ z. x ∷ z) (change-same i f g xs h)
-
 module _ {W X : Type 0} (g : W → X) where
   -- y is put at place i, where x stood
   pub change-set : (f : X → X) (ws : List W) (i : ℕ) (x y : W) → x ≡ getD ws i x → g y ≡ f (g x) → i < length ws → map g (set ws i y) ≡ change i f (map g ws)

@@ -9,20 +9,26 @@ use Rattle.std.specs.declared.option.Option.{Option}
 use Rattle.std.specs.declared.option.Option.the-variants.{Some, None}
 use Rattle.std.specs.declared.result.Result.{Result}
 use Rattle.std.specs.declared.result.Result.the-variants.{Ok, Err}
+use Rattle.std.specs.Options.{mapped}
 use Rattle.std.proofs.shelf.Lists.{map-push}
 use Rattle.std.proofs.shelf.Tests.{lt-ltb, le-ltb, cond-true, cond-false}
 use Rattle.answers.specs.Answers.{readAnswer}
 use Rattle.bytes.specs.Buffers.{written, count}
+use Rattle.bounded.specs.Numbers.{numberOf}
 use Rattle.requests.specs.Requests.{Asking}
 use Rattle.requests.specs.Written.{requestText, canWrite}
 use Rattle.scripts.specs.declared.Step.{Step}
 use Rattle.scripts.specs.declared.Unreadable.{Unreadable}
 use Rattle.pages.specs.Sites.{Bytes, Request}
-use Rattle.machine.specs.Script.{State}
 use Rattle.pages.specs.Browser.{Part, pageNeeded, repliedTo}
-use Rattle.windows.specs.Scripts.{faultIn, byMachine}
-use Rattle.browser.specs.Ends.{requestWritten, requestCount}
-use Rattle.browser.specs.Halves.{stepsFault, unreadableNumber, serverOutsTo, readFault}
+use Rattle.storage.specs.Storage.{tokensOf}
+use Rattle.windows.specs.Scripts.{faultIn}
+use Rattle.browser.specs.declared.browser.Browser.{Browser}
+use Rattle.browser.specs.declared.values.Need.{Need}
+use Rattle.browser.specs.Ends.{finished, serverOutsOf, requestWritten, requestCount}
+use Rattle.browser.specs.Halves.{stepsFault, unreadableNumber, serverOutsTo, readFault, answerFault}
+use Rattle.browser.specs.Parts.{partOf, sitesIn, scriptsIn}
+use Rattle.browser.specs.Values.{needOf}
 use Rattle.browser.specs.Wire.{SiteTable, askingOf, kindFor, replyOf}
 
 -- the number of a fault in a page, and 0 for none
@@ -54,13 +60,13 @@ module _ (table : SiteTable) (o : Option Request) (q : Request) (a : Asking) (ro
   pub is-written : cond (canWrite a) (written (requestText a) room) room ≡ requestWritten table o room
   is-written = ap (λ z. cond (canWrite z) (written (requestText z) room) room) is ∙ ap (λ z. requestWritten table z room) (sym some)
 
--- an answer comes to who asked, and it is known who did
-module _ (table : SiteTable) (q : Request) (bs : Bytes) (o p : Option ℕ) (same : o ≡ p) where
-  pub part-to : (i : ℕ) (b : Part State) → repliedTo (byMachine (length table)) i o q (replyOf table (kindFor o) bs) b ≡ repliedTo (byMachine (length table)) i p q (replyOf table (kindFor p) bs) b
-  part-to i b = ap (λ z. repliedTo (byMachine (length table)) i z q (replyOf table (kindFor z) bs) b) same
-
-  pub outs-to : serverOutsTo o (q .site) (replyOf table (kindFor o) bs) ≡ serverOutsTo p (q .site) (replyOf table (kindFor p) bs)
-  outs-to = ap (λ z. serverOutsTo z (q .site) (replyOf table (kindFor z) bs)) same
-
-  pub fault-to : readFault o (readAnswer (kindFor o) bs) ≡ readFault p (readAnswer (kindFor p) bs)
-  fault-to = ap (λ z. readFault z (readAnswer (kindFor z) bs)) same
+-- an answer comes for a need, and it is known from whom that is: the part, what is let out, and the fault
+pub answer-for : (b : Browser) (need : Need) (bs : Bytes) (o : Option ℕ) (i : ℕ) → mapped numberOf (need .from) ≡ o →
+    (repliedTo (scriptsIn b) i o (needOf (tokensOf (b .tokens)) need) (replyOf (sitesIn b) (kindFor o) bs) (partOf b) ≡ finished (sitesIn b) i (Some (needOf (tokensOf (b .tokens)) need)) bs (partOf b))
+    × (serverOutsTo o (numberOf (need .site)) (replyOf (sitesIn b) (kindFor o) bs) ≡ serverOutsOf (sitesIn b) (Some (needOf (tokensOf (b .tokens)) need)) bs)
+    × (readFault o (readAnswer (kindFor o) bs) ≡ answerFault (Some (needOf (tokensOf (b .tokens)) need)) bs)
+answer-for b need bs o i from = (
+  ap (λ z. repliedTo (scriptsIn b) i z (needOf (tokensOf (b .tokens)) need) (replyOf (sitesIn b) (kindFor z) bs) (partOf b)) (sym from),
+  ap (λ z. serverOutsTo z (numberOf (need .site)) (replyOf (sitesIn b) (kindFor z) bs)) (sym from),
+  ap (λ z. readFault z (readAnswer (kindFor z) bs)) (sym from),
+)

@@ -5,7 +5,6 @@ ghost use mathlib.Core.List.{[], _∷_, _++_};
 ghost use Prim.Native.Nat.{_<_, _≤_};
 ghost use lib.ListN.{length};
 ghost use Rattle.std.specs.Of.Vec.{vec-len};
-ghost use Rattle.std.specs.Options.{mapped};
 ghost use Rattle.std.specs.declared.option.Option.the-variants.{Some, None};
 ghost use Rattle.answers.specs.declared.Kind.the-variants.{Asked, Page};
 ghost use Rattle.answers.specs.Answers.{readAnswer};
