@@ -19,7 +19,7 @@ fn a_page_is_told_what_it_may_see(rt: LibcRuntime) -> Result<(), Fail> {
     let heap = rt.alloc();
     let to_b: &[u8] = b"a\x00\x01!";
     let by_b: &[u8] = b"\xc8\x01\x00hi";
-    let cases: [(u32, &[u8], &[u8], &[u8], &[u8], u8); 7] = [
+    let cases: [(u32, &[u8], &[u8], &[u8], &[u8], u8); 8] = [
         (0, hi(), b"hi\x02\x00\xc8", b"", b"", 0),
         // b allows nobody, c, a, everybody
         (1, hi(), b"\x03\x01\x00", to_b, b"", 0),
@@ -50,6 +50,14 @@ fn a_page_is_told_what_it_may_see(rt: LibcRuntime) -> Result<(), Fail> {
         // what can't be read is barred, also from the site's own page
         (0, b"hi", b"\x03\x00\x00", b"", b"", 6),
         (1, b"hi", b"\x03\x01\x00", to_b, b"", 6),
+        (
+            0,
+            b"HTTP/1.1 200 \r\ncontent-length: x\r\n\r\nhi",
+            b"\x03\x00\x00",
+            b"",
+            b"",
+            7,
+        ),
     ];
     for (site, answer, told, page, server, fault) in cases {
         let browser = with_window(heap, three_sites(heap)?, 0, &[ask(site)])?;
@@ -67,7 +75,8 @@ fn a_page_is_told_what_it_may_see(rt: LibcRuntime) -> Result<(), Fail> {
 #[test]
 fn a_token_goes_with_the_next_request(rt: LibcRuntime) -> Result<(), Fail> {
     let heap = rt.alloc();
-    let without: &[u8] = b"POST / HTTP/1.1\r\nhost: b.example\r\norigin: https://a.example\r\ncontent-length: 1\r\n\r\n!";
+    let without: &[u8] =
+        b"POST / HTTP/1.1\r\nhost: b.example\r\norigin: https://a.example\r\ncontent-length: 1\r\n\r\n!";
     let cases: [(&[u8], &[u8]); 4] = [
         (hi(), without),
         (
@@ -100,11 +109,7 @@ fn a_token_goes_with_the_next_request(rt: LibcRuntime) -> Result<(), Fail> {
 fn next_request(heap: Global, answer: &[u8], room: &mut [u8]) -> Result<usize, Fail> {
     let browser = with_window(heap, three_sites(heap)?, 0, &[ask(1)])?;
     let done = browser.begin(0).finish(answer);
-    let size = done
-        .browser
-        .begin(0)
-        .request(room)
-        .ok_or("nothing asked")?;
+    let size = done.browser.begin(0).request(room).ok_or("nothing asked")?;
     Ok(size)
 }
 

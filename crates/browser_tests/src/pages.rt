@@ -33,7 +33,12 @@ pub(crate) fn ask(site: u32) -> Deed {
         path: 22,
         body: 26,
     };
-    Deed { call, site, window: 0, byte: 33 }
+    Deed {
+        call,
+        site,
+        window: 0,
+        byte: 33,
+    }
 }
 
 pub(crate) fn say(window: u32, site: u32, byte: u32) -> Deed {
@@ -42,25 +47,50 @@ pub(crate) fn say(window: u32, site: u32, byte: u32) -> Deed {
         site: 30,
         bytes: 26,
     };
-    Deed { call, site, window, byte }
+    Deed {
+        call,
+        site,
+        window,
+        byte,
+    }
 }
 
 pub(crate) fn keep(byte: u32) -> Deed {
     let call = Call::Keep { bytes: 26 };
-    Deed { call, site: 0, window: 0, byte }
+    Deed {
+        call,
+        site: 0,
+        window: 0,
+        byte,
+    }
 }
 
 pub(crate) fn look() -> Deed {
-    Deed { call: Call::Look, site: 0, window: 0, byte: 0 }
+    Deed {
+        call: Call::Look,
+        site: 0,
+        window: 0,
+        byte: 0,
+    }
 }
 
 pub(crate) fn idle() -> Deed {
-    Deed { call: Call::Nothing, site: 0, window: 0, byte: 0 }
+    Deed {
+        call: Call::Nothing,
+        site: 0,
+        window: 0,
+        byte: 0,
+    }
 }
 
 pub(crate) fn open(site: u32) -> Deed {
     let call = Call::Open { site: 30, path: 22 };
-    Deed { call, site, window: 0, byte: 0 }
+    Deed {
+        call,
+        site,
+        window: 0,
+        byte: 0,
+    }
 }
 
 // The steps of a page: it does its deeds, one in each turn. From then on it tells its own server in every second turn
@@ -69,41 +99,47 @@ pub(crate) fn open(site: u32) -> Deed {
 fn steps(heap: Global, own: u32, deeds: &[Deed]) -> Result<Vec<Step>, Fail> {
     let mut steps = Vec::new(heap);
     // the path / at 4000, and a byte at 4010
-    steps.extend_from_slice(&[
-        Step::Constant(22, 4000),
-        Step::Constant(23, 1),
-        Step::Constant(24, 47),
-        Step::Store(22, 24),
-        Step::Constant(24, own),
-        Step::Constant(26, 4010),
-        Step::Constant(27, 1),
-    ])?;
+    steps.extend_from_slice(
+        &[
+            Step::Constant(22, 4000),
+            Step::Constant(23, 1),
+            Step::Constant(24, 47),
+            Step::Store(22, 24),
+            Step::Constant(24, own),
+            Step::Constant(26, 4010),
+            Step::Constant(27, 1),
+        ],
+    )?;
     for deed in deeds {
-        steps.extend_from_slice(&[
-            Step::Constant(28, deed.byte),
-            Step::Store(26, 28),
-            Step::Constant(30, deed.site),
-            Step::Constant(31, deed.window),
-            Step::Wait(deed.call),
-        ])?;
+        steps.extend_from_slice(
+            &[
+                Step::Constant(28, deed.byte),
+                Step::Store(26, 28),
+                Step::Constant(30, deed.site),
+                Step::Constant(31, deed.window),
+                Step::Wait(deed.call),
+            ],
+        )?;
     }
     let again = u32::try_from(steps.len())?;
-    steps.extend_from_slice(&[
-        Step::Move(21, 1),
-        Step::Store(21, 0),
-        Step::Sum(21, 21, 23),
-        Step::Store(21, 2),
-        Step::Sum(21, 21, 23),
-        Step::Store(21, 3),
-        Step::Sum(21, 21, 23),
-        Step::Wait(Call::Ask {
-            site: 24,
-            path: 22,
-            body: 20,
-        }),
-        Step::Wait(Call::Nothing),
-        Step::Jump(again),
-    ])?;
+    steps.extend_from_slice(
+        &[
+            Step::Move(21, 1),
+            Step::Store(21, 0),
+            Step::Sum(21, 21, 23),
+            Step::Store(21, 2),
+            Step::Sum(21, 21, 23),
+            Step::Store(21, 3),
+            Step::Sum(21, 21, 23),
+            Step::Wait(Call::Ask {
+                site: 24,
+                path: 22,
+                body: 20,
+            }),
+            Step::Wait(Call::Nothing),
+            Step::Jump(again),
+        ],
+    )?;
     Ok(steps)
 }
 
@@ -143,7 +179,11 @@ pub(crate) fn finish_page(
 // windows.
 pub(crate) fn three_sites(heap: Global) -> Result<Browser, Fail> {
     let mut table = Table::new();
-    for (host, port) in [(b"a.example", 443), (b"b.example", 443), (b"a.example", 8443)] {
+    for (host, port) in [
+        (b"a.example", 443),
+        (b"b.example", 443),
+        (b"a.example", 8443),
+    ] {
         let site = Site { host, port };
         check(table.add(site).is_some())?;
     }
