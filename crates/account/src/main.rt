@@ -1,4 +1,6 @@
 // account SETTINGS BOOK: tells a run event by event, with the sites by their names: what each let out, and to whom.
+#![tactic(auto)]
+
 use book::read::{Line, read_line};
 use book::record::Event;
 use bounded::site::SiteNumber;

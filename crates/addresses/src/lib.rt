@@ -1,4 +1,6 @@
 // Addresses and sites: read, compared and written.
+#![tactic(auto)]
+
 ghost use Rattle.std.specs.Prelude.{◌≡◌, true, ◌++◌, drop, Decides};
 ghost use Rattle.std.specs.Option.{option_map};
 ghost use Rattle.octets.specs.Buffers.{written, count};

@@ -1,4 +1,6 @@
 // Answers: read from bytes to the end or the first fault.
+#![tactic(auto)]
+
 ghost use Rattle.std.specs.Prelude.{◌≡◌};
 ghost use Rattle.std.specs.Option.{option_map};
 ghost use Rattle.lines.specs.Views.{answer_of};
@@ -10,10 +12,10 @@ pub mod within;
 pub mod write;
 
 use addresses::{Site, read_site};
-use octets::decimal::read_number;
-use octets::{Class, span, split, strip};
 use lines::heads::{Fields, read_fields};
 use lines::{MessageFault, is_token, line_then, same_name};
+use octets::decimal::read_number;
+use octets::{Class, span, split, strip};
 
 // What was asked for: an answer to a page, or a page that is opened.
 #[derive(Clone, Copy)]

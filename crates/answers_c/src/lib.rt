@@ -1,4 +1,6 @@
 // The answer reader for programs in other languages, which compare and time it.
+#![tactic(auto)]
+
 ghost use Rattle.std.specs.Prelude.{◌≡◌};
 ghost use Rattle.std.specs.Option.{option_map};
 ghost use Rattle.answers.specs.Answers.{read_answer};

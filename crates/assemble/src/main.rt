@@ -1,5 +1,7 @@
 // assemble: reads a script as text from standard input, and writes its page file to standard output. A text that is
 // refused is named on standard error by line, column and what was expected there; the status is then 1.
+#![tactic(auto)]
+
 use anyhow::anyhow;
 use assembler::assemble;
 use script_lines::{Expected, Operand};

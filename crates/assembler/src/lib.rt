@@ -1,4 +1,6 @@
 // The assembler: from the text form of a script to its page file.
+#![tactic(auto)]
+
 mod labels;
 mod page;
 

@@ -1,4 +1,5 @@
 // Examples of texts and of page files, as tests, in a crate of their own so that the others are not proved twice.
+#![tactic(auto)]
 
 #[cfg(test)]
 mod pages;

@@ -1,3 +1,5 @@
 // Tests of the book's lines: examples there and back, damaged forms, every line cut at every byte.
+#![tactic(auto)]
+
 #[cfg(test)]
 mod lines;

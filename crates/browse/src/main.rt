@@ -1,6 +1,8 @@
 // browse SETTINGS BOOK: does what the settings say. Requests go framed to standard output, answers come framed from
 // standard input, and a line for each event goes to the file BOOK. An input that ends is no fault: what is asked after it
 // has no answer.
+#![tactic(auto)]
+
 use loading::files::{read_file, read_plan};
 use loading::stop::{Stop, report};
 use pipes::carrier::Pipes;

@@ -1,4 +1,6 @@
 // The browser by value: a turn in two calls.
+#![tactic(auto)]
+
 pub mod browser;
 mod deed;
 mod fitted;

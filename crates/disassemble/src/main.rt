@@ -1,5 +1,7 @@
 // disassemble: reads a page file from standard input, and writes its script as text to standard output. A file that is
 // no page is refused on standard error, by why it cannot be read; the status is then 1.
+#![tactic(auto)]
+
 use anyhow::anyhow;
 use disassembler::disassemble;
 use scripts::Unreadable;

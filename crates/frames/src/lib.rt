@@ -1,4 +1,6 @@
 // The head of a frame: whether a request or an answer follows, of which site, and how many bytes.
+#![tactic(auto)]
+
 ghost use Rattle.std.specs.Prelude.{◌≡◌, ◌≤◌, ◌++◌, take, IfSome, if◌then◌else◌, Some, None};
 ghost use Rattle.std.specs.Option.{option_map};
 ghost use Rattle.octets.specs.Buffers.{written, count};

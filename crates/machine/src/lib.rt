@@ -1,4 +1,6 @@
 // The machine that runs scripts.
+#![tactic(auto)]
+
 ghost use Rattle.std.specs.Prelude.{◌≡◌};
 ghost use Rattle.machine.specs.Turn.{fresh, fault_number};
 

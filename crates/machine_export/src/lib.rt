@@ -1,4 +1,6 @@
 // The machine as a static library, for timing it beside the same interpreter in Rust.
+#![tactic(auto)]
+
 ghost use Rattle.std.specs.Prelude.{◌≡◌, ◌≤◌};
 ghost use Rattle.machine_export.specs.Plays.{counts, played, plays, Ran};
 ghost use Rattle.scripts.specs.Page.{page_in};

@@ -1,4 +1,6 @@
 // Bytes read and written: classes of bytes, fronts of a text, decimal numbers, pieces put into a lent buffer.
+#![tactic(auto)]
+
 ghost use Rattle.std.specs.Prelude.{◌≡◌, ◌≤◌, length};
 ghost use Rattle.std.specs.List.{prefix_len};
 ghost use Rattle.std.specs.Option.{option_map};

@@ -1,4 +1,6 @@
 // Tests of frames in memory: heads, a carrier's exchanges, requests that are served.
+#![tactic(auto)]
+
 #[cfg(test)]
 mod carried;
 #[cfg(test)]

@@ -1,4 +1,6 @@
 // Frames over a pair of streams: a carrier whose servers are behind pipes, and the other side of those pipes.
+#![tactic(auto)]
+
 pub mod carrier;
 pub mod fault;
 pub mod serve;

@@ -1,4 +1,6 @@
 // Tests of the readers: tables of good and bad texts, and each text cut at every byte.
+#![tactic(auto)]
+
 #[cfg(test)]
 mod addresses;
 #[cfg(test)]

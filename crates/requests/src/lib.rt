@@ -1,4 +1,6 @@
 // Requests: read from bytes to the end, or refused.
+#![tactic(auto)]
+
 ghost use Rattle.std.specs.Prelude.{◌≡◌};
 ghost use Rattle.std.specs.Option.{option_map};
 ghost use Rattle.addresses.specs.Address.{read_site};
@@ -8,10 +10,10 @@ ghost use Rattle.requests.specs.Requests.{Known, host_of, host_field, origin_fie
 ghost use Rattle.requests.specs.Views.{known_of, asking_of};
 
 use addresses::{Site, host_then, is_path, read_site};
-use octets::decimal::read_number;
-use octets::{Class, split, strip};
 use lines::heads::{Fields, read_fields};
 use lines::{MessageFault, is_token, same_name};
+use octets::decimal::read_number;
+use octets::{Class, split, strip};
 
 pub mod write;
 

@@ -1,4 +1,5 @@
 // Whole runs, as tests.
+#![tactic(auto)]
 
 #[cfg(test)]
 mod agendas;

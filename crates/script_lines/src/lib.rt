@@ -1,4 +1,6 @@
 // The text form of page scripts, one line at a time: what a line stands for, or what was expected in it.
+#![tactic(auto)]
+
 mod forms;
 mod operands;
 mod reading;

@@ -7,5 +7,7 @@
 //    token in 13 and 14 (a length over 64: none);
 // 7: the bytes that 11 and 12 name are the answer, as they are.
 // Anything else, a fault, and 10,000 steps without a wait are an answer of no bytes, which nobody can read.
+#![tactic(auto)]
+
 pub mod family;
 pub mod server;

@@ -1,5 +1,6 @@
 // Examples of page files and of turns, as tests: those of scripts and machine are many, and stand here so that those
 // crates are not proved twice.
+#![tactic(auto)]
 
 #[cfg(test)]
 mod pages;

@@ -1,4 +1,6 @@
 // Scripts: the steps of a page's program, and the page files that hold them.
+#![tactic(auto)]
+
 ghost use Rattle.std.specs.Prelude.{◌≡◌};
 ghost use Rattle.scripts.specs.Page.{fault_number};
 

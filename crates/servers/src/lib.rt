@@ -1,5 +1,7 @@
 // Servers, whatever they are: one a site. Each has a state of its own, and what it answers goes by that state and by the
 // bytes of the request, and by nothing else.
+#![tactic(auto)]
+
 ghost use Rattle.std.specs.Prelude.{◌≡◌, ℕ, ◌≤◌, List, length, take, Decides};
 ghost use Rattle.pages.specs.Browser.{at};
 ghost use Rattle.servers.specs.Answering.{fitting};

@@ -1,4 +1,6 @@
 // Settings: the sites by number, the windows to open, and the turns.
+#![tactic(auto)]
+
 ghost use Rattle.std.specs.Prelude.{◌≡◌, ◌+◌, ◌^◌, ◌<◌, true, length, drop, if◌then◌else◌, Some, None, nat_le};
 ghost use Rattle.std.specs.List.{slice_get};
 ghost use Rattle.settings.specs.Lines.{lines};

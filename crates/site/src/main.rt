@@ -1,5 +1,7 @@
 // site SETTINGS DIR: plays the servers of the settings' sites, as the scripts in a folder say. Requests come framed from
 // standard input, and answers go framed to standard output, until the input ends.
+#![tactic(auto)]
+
 use loading::files::{read_file, read_plan};
 use loading::folder::load;
 use loading::sites::sites_of;

@@ -1,5 +1,7 @@
 // What holds of the sites on bytes: pages run by the machine, answers and requests read as texts, any servers at all. Each
 // function's contract is a theorem: without its proof the crate is refused.
+#![tactic(auto)]
+
 pub mod carried;
 
 ghost use Rattle.site_laws.specs.Laws.{BarredAlike, BrowserIsCode, PromiseOnBytes, RequestsFit, ToldWhoAsks, WordsOnBytes};

@@ -1,4 +1,6 @@
 // What a browser remembers of each site: its token, what it keeps, its host and port.
+#![tactic(auto)]
+
 pub mod stores;
 pub mod table;
 #[cfg(test)]

@@ -1,5 +1,7 @@
 // twice SETTINGS DIR1 DIR2 SITE: two browsers side by side, over servers that scripts play and that differ at one site; one
 // line says what came of it.
+#![tactic(auto)]
+
 use addresses::read_site;
 use compare::difference::Difference;
 use loading::files::{read_file, read_plan};

@@ -15,12 +15,12 @@ returns c =
     let host = c.args.head.site.host.now in
     let port = port_text c.args.head.site.port in
     let end = (codes " " ++ decimal c.args.head.len) ++ codes "\n" in
-    let e : c.word.result.now ++ (codes "https://" ++ (host ++ (c.as-bytes.result.now ++ (c.as-bytes-2.result.now ++ codes "\n")))) ≡ head_text head =
-    (λ i. c.word.ensures i ++ (codes "https://" ++ (host ++ ((c.as-bytes.ensures ∙ c.port-text-port.ensures) i ++ ((c.as-bytes-2.ensures ∙ c.decimal-after-digits.ensures) i ++ codes "\n")))))
+    let e : c.word.result.now ++ (codes "https://" ++ (host ++ (c.as_bytes.result.now ++ (c.as_bytes-2.result.now ++ codes "\n")))) ≡ head_text head =
+    (λ i. c.word.ensures i ++ (codes "https://" ++ (host ++ ((c.as_bytes.ensures ∙ c.port_text-port.ensures) i ++ ((c.as_bytes-2.ensures ∙ c.decimal_after-digits.ensures) i ++ codes "\n")))))
     ∙ ap (λ l. kind_text c.args.head.kind ++ (codes "https://" ++ l)) (sym (append_assoc host port end)) in
-    let answer : c.put-head.result ≡ count (head_text head) out = c.put-head.ensures.answer ∙ ap (λ t. count t out) e in
-    let after : c.put-head.new.out ≡ written (head_text head) out = c.put-head.ensures.after ∙ ap (λ t. written t out) e in
-    let can : can_write head ≡ true = and_from _ _ (sym c.if-not-is-site.ensures) (le-leb c.args.head.len 999999999 c.if-head-gt-MOST-BYTES.false) in
+    let answer : c.put_head.result ≡ count (head_text head) out = c.put_head.ensures.answer ∙ ap (λ t. count t out) e in
+    let after : c.put_head.new.out ≡ written (head_text head) out = c.put_head.ensures.after ∙ ap (λ t. written t out) e in
+    let can : can_write head ≡ true = and_from _ _ (sym c.if-not-is_site.ensures) (le-leb c.args.head.len 999999999 c.if-head-gt-MOST-BYTES.false) in
     record {
       answer = answer ∙ sym (cond-true _ _ _ can);
       after = after ∙ sym (cond-true _ _ _ can);

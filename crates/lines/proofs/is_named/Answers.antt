@@ -5,11 +5,11 @@ use Rattle.lines.proofs.is_named.Goals as goal
 pub returns-in-default : goal.returns-in-default
 returns-in-default c = sym (c.loop-i.invariant ∙ named_turn _ _ _ _ _ c.loop-i-test.true c.in-default.ensures)
 
-pub returns-then-same-name : goal.returns-then-same-name
-returns-then-same-name c = sym (c.loop-i.invariant ∙ named_more _ _ _ _ _ _ _ _ c.loop-i-test.true c.in-Some.ensures c.split.ensures.front c.if-same-name.ensures)
+pub returns-then-same_name : goal.returns-then-same_name
+returns-then-same_name c = sym (c.loop-i.invariant ∙ named_more _ _ _ _ _ _ _ _ c.loop-i-test.true c.in-Some.ensures c.split.ensures.front c.if-same_name.ensures)
 
 pub loop-i-preserved : goal.loop-i-preserved
-loop-i-preserved c = c.loop-i.invariant ∙ named_more _ _ _ _ _ _ _ _ c.loop-i-test.true c.in-Some.ensures c.split.ensures.front c.if-same-name.ensures
+loop-i-preserved c = c.loop-i.invariant ∙ named_more _ _ _ _ _ _ _ _ c.loop-i-test.true c.in-Some.ensures c.split.ensures.front c.if-same_name.ensures
 
 pub returns : goal.returns
 returns c = sym (c.loop-i.invariant ∙ named_end _ _ _ _ c.loop-i-test.false)

@@ -17,15 +17,15 @@ size s rest n m p q r =
 pub returns-in-default : goal.returns-in-default
 returns-in-default c =
     let s = c.args.s.now in
-    let long = size s c.split-at.result.1.now c.span-n.result c.span-m.result c.span-n.ensures.is c.split-at.ensures.back c.span-m.ensures.is in
-    record { is = ap (λ o. and_then o (λ t. Some (take (prefix_len (has Text) s) s, t))) (c.in-default.ensures ∙ ap (after crlf) (c.split-at-2.ensures.back ∙ ap (λ k. drop k s) long)); name = tt }
+    let long = size s c.split_at.result.1.now c.span-n.result c.span-m.result c.span-n.ensures.is c.split_at.ensures.back c.span-m.ensures.is in
+    record { is = ap (λ o. and_then o (λ t. Some (take (prefix_len (has Text) s) s, t))) (c.in-default.ensures ∙ ap (after crlf) (c.split_at-2.ensures.back ∙ ap (λ k. drop k s) long)); name = tt }
 
 pub returns : goal.returns
 returns c =
     let s = c.args.s.now in
-    let long = size s c.split-at.result.1.now c.span-n.result c.span-m.result c.span-n.ensures.is c.split-at.ensures.back c.span-m.ensures.is in
-    let line : c.split-at-2.result.0.now ≡ take (prefix_len (has Text) s) s = c.split-at-2.ensures.front ∙ ap (λ k. take k s) long in
+    let long = size s c.split_at.result.1.now c.span-n.result c.span-m.result c.span-n.ensures.is c.split_at.ensures.back c.span-m.ensures.is in
+    let line : c.split_at-2.result.0.now ≡ take (prefix_len (has Text) s) s = c.split_at-2.ensures.front ∙ ap (λ k. take k s) long in
     record {
-      is = (λ i. Some (line i, c.in-Some.rest.now)) ∙ ap (λ o. and_then o (λ t. Some (take (prefix_len (has Text) s) s, t))) (c.in-Some.ensures ∙ ap (after crlf) (c.split-at-2.ensures.back ∙ ap (λ k. drop k s) long));
-      name = (c.span-n.ensures.is ∙ sym (ap (prefix_len (has Token)) line ∙ front_in (has Token) (has Text) token_text s), omega (arith, c.split-at-2.ensures.front-len));
+      is = (λ i. Some (line i, c.in-Some.rest.now)) ∙ ap (λ o. and_then o (λ t. Some (take (prefix_len (has Text) s) s, t))) (c.in-Some.ensures ∙ ap (after crlf) (c.split_at-2.ensures.back ∙ ap (λ k. drop k s) long));
+      name = (c.span-n.ensures.is ∙ sym (ap (prefix_len (has Token)) line ∙ front_in (has Token) (has Text) token_text s), omega (arith, c.split_at-2.ensures.front-len));
     }

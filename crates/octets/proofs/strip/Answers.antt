@@ -4,4 +4,4 @@ use Rattle.octets.proofs.strip.Goals as goal
 use Rattle.std.proofs.lemmas.Bool.Decides.{Decides-eqb}
 
 pub returns : goal.returns
-returns c = after_is c.args.prefix.now c.args.s.now _ (strip_prefix_is Decides-eqb c.args.s.now c.args.prefix.now _ c.strip-prefix.ensures.cases)
+returns c = after_is c.args.prefix.now c.args.s.now _ (strip_prefix_is Decides-eqb c.args.s.now c.args.prefix.now _ c.strip_prefix.ensures.cases)

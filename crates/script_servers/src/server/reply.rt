@@ -11,8 +11,8 @@ use super::Server;
 use addresses::Site;
 use answers::write::write_answer;
 use answers::{Allowed, Kind, Response};
-use octets::pieces::put_all;
 use machine::{Act, Outcome};
+use octets::pieces::put_all;
 
 fn code_by(n: u32) -> Option<u16>
     ensures { result ≡ code_by n }

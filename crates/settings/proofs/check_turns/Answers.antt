@@ -11,8 +11,8 @@ some s e = let h = eqb-false (length s) 0 e in omega arith
 shorter : (c : goal.In-Some) → length c.in-Some.next.now < length c.loop-next.rest.now
 shorter c = (next-some turn_line c.loop-next.rest.now c.in-Some.next.now c.in-Some.field-0-0 (sym c.in-Some.ensures)).3
 
-pub overflow-add-line : goal.overflow-add-line
-overflow-add-line c = omega (arith, shorter c, c.loop-next.invariant.1, c.requires)
+pub overflow_add-line : goal.overflow_add-line
+overflow_add-line c = omega (arith, shorter c, c.loop-next.invariant.1, c.requires)
 
 pub loop-next-init : goal.loop-next-init
 loop-next-init c = (goes_on_here (c.args.before + 1) (lines c.args.text.now), omega arith)
@@ -26,12 +26,12 @@ loop-next-preserved c = (
   omega (arith, shorter c, c.loop-next.invariant.1),
 )
 
-pub returns-then-is-empty : goal.returns-then-is-empty
-returns-then-is-empty c =
+pub returns-then-is_empty : goal.returns-then-is_empty
+returns-then-is_empty c =
     sym (turns_good (c.args.before + 1) (c.loop-next.line + 1) (lines c.args.text.now) c.loop-next.rest.now (sym c.in-default.ensures) c.loop-next.invariant.0
-    (eqb-true (length c.loop-next.rest.now) 0 (sym c.if-is-empty.ensures)))
+    (eqb-true (length c.loop-next.rest.now) 0 (sym c.if-is_empty.ensures)))
 
 pub returns : goal.returns
 returns c =
     sym (turns_bad (c.args.before + 1) (c.loop-next.line + 1) (lines c.args.text.now) c.loop-next.rest.now (sym c.in-default.ensures) c.loop-next.invariant.0
-    (some c.loop-next.rest.now (sym c.if-is-empty.ensures)))
+    (some c.loop-next.rest.now (sym c.if-is_empty.ensures)))

@@ -13,4 +13,4 @@ pub returns-in-default-a : goal.returns-in-default-a
 returns-in-default-a c = c.of.ensures ∙ found _ _ _ c.in-Some.is c.in-default-a.is
 
 pub returns : goal.returns
-returns c = c.of-site.ensures ∙ found _ _ _ c.in-Some.is c.in-Site.is
+returns c = c.of_site.ensures ∙ found _ _ _ c.in-Some.is c.in-Site.is

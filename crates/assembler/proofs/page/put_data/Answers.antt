@@ -17,7 +17,7 @@ returns-in-err-at c =
     let d = c.args.d in
     let i = c.loop-i.i in
     let p = err_from_is_err_and c.from-residual.result c.from-residual.ensures.1 in
-    let rows = c.byte-rows-rows.ensures ∙ ap (byte_rows ((d.place + i) % 4294967296) d.x d.y) c.byte.ensures in
+    let rows = c.byte_rows-rows.ensures ∙ ap (byte_rows ((d.place + i) % 4294967296) d.x d.y) c.byte.ensures in
     record {
       is = ap (λ r. front_of r c.put.new.body) p.1
           ∙ ap Err p.2
@@ -30,7 +30,7 @@ pub loop-i-preserved : goal.loop-i-preserved
 loop-i-preserved c =
     let d = c.args.d in
     let i = c.loop-i.i in
-    let rows = c.byte-rows-rows.ensures ∙ ap (byte_rows ((d.place + i) % 4294967296) d.x d.y) c.byte.ensures in
+    let rows = c.byte_rows-rows.ensures ∙ ap (byte_rows ((d.place + i) % 4294967296) d.x d.y) c.byte.ensures in
     let next = c.in-ok-at.ensures.within in (
       c.loop-i.invariant.0
           ∙ data_more d.place d.x d.y i (data_of d) _ (take c.loop-i.at c.loop-i.body) c.args.line.now (omega (arith, c.count-i-end.ensures)) rows _ c.in-ok-at.ensures.is,

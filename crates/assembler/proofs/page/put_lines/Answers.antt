@@ -12,7 +12,7 @@ returns-in-Err c =
     let first = c.cut.result.0.now in
     let h = cut_more c.loop-rest.rest.now _ _ (sym c.loop-rest-test.ensures) c.cut.ensures.line c.cut.ensures.rest in
     record {
-      is = ap Err c.refusal-at.ensures
+      is = ap Err c.refusal_at.ensures
           ∙ sym (c.loop-rest.invariant.0 ∙ ap (lines_from text k (take c.loop-rest.at c.loop-rest.body)) h.0 ∙ sym (ap (λ r. go_on r k first (λ more. lines_from text (k + 1) more (lines c.cut.result.1.now))) c.in-Err.ensures.is));
       within = tt;
     }

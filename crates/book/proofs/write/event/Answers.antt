@@ -11,12 +11,12 @@ use Rattle.book.proofs.write.event.Goals as goal
 
 pub returns-in-Opening : goal.returns-in-Opening
 returns-in-Opening c =
-    let text = c.as-slice.result.now in
+    let text = c.as_slice.result.now in
     record {
       puts =
           subst (λ (e : Event). Puts c.args.at (event_text (event_of e)) c.args.room.now c.bytes.result c.bytes.new.room) (sym c.in-Opening.is)
-          (puts_bytes _ _ _ (codes " open " ++ decimal (number_of c.in-Opening.to)) text (text_of c.in-Opening.path) _ _ _ c.as-slice.ensures.is c.site-next.ensures c.bytes.ensures.puts);
+          (puts_bytes _ _ _ (codes " open " ++ decimal (number_of c.in-Opening.to)) text (text_of c.in-Opening.path) _ _ _ c.as_slice.ensures.is c.site-next.ensures c.bytes.ensures.puts);
       range =
           subst (λ (e : Event). EventIn (event_of e)) (sym c.in-Opening.is)
-          (c.in-Opening.to.known, bytes_in 255 text (text_of c.in-Opening.path) c.as-slice.ensures.is c.as-slice.ensures.short c.bytes.ensures.bytes);
+          (c.in-Opening.to.known, bytes_in 255 text (text_of c.in-Opening.path) c.as_slice.ensures.is c.as_slice.ensures.short c.bytes.ensures.bytes);
     }

@@ -7,4 +7,4 @@ returns c =
     decides_by _ _ _ _ _
     (keep_both _ _ _ _ _ c.pick.ensures c.pick-2.ensures)
     (keep_both _ _ _ _ _ c.pick-3.ensures c.pick-4.ensures)
-    c.same-lists.ensures
+    c.same_lists.ensures

@@ -13,18 +13,18 @@ loop-i-init c = front-none _ window_of c.args.one.now c.args.two.now
 pub returns-then-i-two : goal.returns-then-i-two
 returns-then-i-two c = front_lacks _ window_of c.args.one.now c.args.two.now c.loop-i.i (λ e. omega arith) c.loop-i.invariant
 
-pub returns-then-not-alike-windows : goal.returns-then-not-alike-windows
-returns-then-not-alike-windows c =
+pub returns-then-not-alike_windows : goal.returns-then-not-alike_windows
+returns-then-not-alike_windows c =
     front_apart _ window_of c.args.one.now c.args.two.now c.loop-i.i _ _
     (omega arith) (omega arith) c.index-one-i.is c.index-two-i.is
-    (λ a. false≢true (c.if-not-alike-windows.ensures.1 a))
+    (λ a. false≢true (c.if-not-alike_windows.ensures.1 a))
     c.loop-i.invariant
 
 pub loop-i-preserved : goal.loop-i-preserved
 loop-i-preserved c =
     front-more _ window_of c.args.one.now c.args.two.now c.loop-i.i _ _
     (omega arith) (omega arith) c.index-one-i.is c.index-two-i.is
-    (c.if-not-alike-windows.ensures.0 refl)
+    (c.if-not-alike_windows.ensures.0 refl)
     c.loop-i.invariant
 
 pub returns-then-one-two : goal.returns-then-one-two

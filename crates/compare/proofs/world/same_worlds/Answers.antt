@@ -5,12 +5,12 @@ use Rattle.compare.specs.Alike.{world}
 use Rattle.compare.proofs.Worlds.{worlds_decide}
 use Rattle.compare.proofs.world.same_worlds.Goals as goal
 
-pub returns-then-is-none : goal.returns-then-is-none
-returns-then-is-none g c =
+pub returns-then-is_none : goal.returns-then-is_none
+returns-then-is_none g c =
     worlds_decide
     (world (part_of c.args.one.now) (g.S.Servers.states c.args.first.now))
     (world (part_of c.args.two.now) (g.S.Servers.states c.args.second.now))
     true
-    c.same-servers.result
-    (Decides-at _ _ (sym (ap not c.if-is-none.ensures)) c.find-difference.ensures.alike)
-    c.same-servers.ensures
+    c.same_servers.result
+    (Decides-at _ _ (sym (ap not c.if-is_none.ensures)) c.find_difference.ensures.alike)
+    c.same_servers.ensures

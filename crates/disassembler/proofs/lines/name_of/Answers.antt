@@ -3,4 +3,4 @@ use Rattle.disassembler.proofs.lines.name_of.Goals as goal
 
 pub returns : goal.returns
 unfolding name_of
-returns c = c.name-by.ensures
+returns c = c.name_by.ensures

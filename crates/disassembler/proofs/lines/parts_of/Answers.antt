@@ -8,15 +8,15 @@ pub returns-in-default : goal.returns-in-default
 unfolding line_then
 returns-in-default c =
     c.raw.ensures
-    ∙ sym (ap (λ o. by_form o c.args.row (10 ∷ [])) (sym (ap form_of c.name-of-word.ensures) ∙ sym c.in-default.ensures))
+    ∙ sym (ap (λ o. by_form o c.args.row (10 ∷ [])) (sym (ap form_of c.name_of-word.ensures) ∙ sym c.in-default.ensures))
 
 pub returns-then-fits : goal.returns-then-fits
 unfolding line_then
 returns-then-fits c =
     c.plain.ensures
-    ∙ ap (λ w. plain_then w c.in-Some.form c.args.row (10 ∷ [])) c.name-of-word.ensures
+    ∙ ap (λ w. plain_then w c.in-Some.form c.args.row (10 ∷ [])) c.name_of-word.ensures
     ∙ sym (
-    ap (λ o. by_form o c.args.row (10 ∷ [])) (sym (ap form_of c.name-of-word.ensures) ∙ sym c.in-Some.ensures)
+    ap (λ o. by_form o c.args.row (10 ∷ [])) (sym (ap form_of c.name_of-word.ensures) ∙ sym c.in-Some.ensures)
     ∙ cond-true (fits c.in-Some.form c.args.row) _ _ (sym c.if-fits.ensures)
     )
 
@@ -25,6 +25,6 @@ unfolding line_then
 returns-else-fits c =
     c.raw-else-fits.ensures
     ∙ sym (
-    ap (λ o. by_form o c.args.row (10 ∷ [])) (sym (ap form_of c.name-of-word.ensures) ∙ sym c.in-Some.ensures)
+    ap (λ o. by_form o c.args.row (10 ∷ [])) (sym (ap form_of c.name_of-word.ensures) ∙ sym c.in-Some.ensures)
     ∙ cond-false (fits c.in-Some.form c.args.row) _ _ (sym c.if-fits.ensures)
     )

@@ -3,11 +3,11 @@ use Rattle.disassembler.proofs.Pages.{page_ok}
 use Rattle.disassembler.proofs.Whole.{back_of}
 use Rattle.disassembler.proofs.text.disassemble.Goals as goal
 
-pub put-rows-size-requires : goal.put-rows-size-requires
-put-rows-size-requires c =
+pub put_rows-size-requires : goal.put_rows-size-requires
+put_rows-size-requires c =
     let h = page_ok c.args.page.now _ (sym c.in-ok-script.ensures) in
     let same = ap length c.steps-steps.ensures.steps in
-    (c.steps-steps.ensures.few, (omega (arith, h.0.size, same, c.split-at.ensures.back_len), refl))
+    (c.steps-steps.ensures.few, (omega (arith, h.0.size, same, c.split_at.ensures.back_len), refl))
 
 pub returns-in-err-script : goal.returns-in-err-script
 returns-in-err-script c = record { size = search rules; bytes = search rules; back = back_of c.args.page.now (λ i. omega (arith, c.type-inv.page i)) }

@@ -5,13 +5,13 @@ use Rattle.disassembler.proofs.text.put_rows.Goals as goal
 
 pub returns-in-default : goal.returns-in-default
 returns-in-default c =
-    let short = line_short c.row-in.result (record { kind = omega arith; a = omega arith; b = omega arith; c = omega arith; number = omega arith }) in
-    rows_room c.loop-i.at c.row-in.result c.loop-i.out _ c.parts-of.ensures (omega (arith, short, c.loop-i.invariant.1)) c.in-default.ensures.answer
+    let short = line_short c.row_in.result (record { kind = omega arith; a = omega arith; b = omega arith; c = omega arith; number = omega arith }) in
+    rows_room c.loop-i.at c.row_in.result c.loop-i.out _ c.parts_of.ensures (omega (arith, short, c.loop-i.invariant.1)) c.in-default.ensures.answer
 
 pub loop-i-preserved : goal.loop-i-preserved
 loop-i-preserved c =
-    let short = line_short c.row-in.result (record { kind = omega arith; a = omega arith; b = omega arith; c = omega arith; number = omega arith }) in
-    let h = rows_more (c.args.steps - c.loop-i.-i) (c.args.steps - (c.loop-i.-i + 1)) c.loop-i.at c.in-Some.next c.row-in.result c.loop-i.rest.now _ _ c.loop-i.out _ _ _ (omega arith) c.split-at.ensures.front c.split-at.ensures.back c.row-in.ensures c.parts-of.ensures (omega (arith, c.loop-i.invariant.1)) c.in-Some.ensures.answer c.put.ensures.after c.loop-i.invariant.0 in
+    let short = line_short c.row_in.result (record { kind = omega arith; a = omega arith; b = omega arith; c = omega arith; number = omega arith }) in
+    let h = rows_more (c.args.steps - c.loop-i.-i) (c.args.steps - (c.loop-i.-i + 1)) c.loop-i.at c.in-Some.next c.row_in.result c.loop-i.rest.now _ _ c.loop-i.out _ _ _ (omega arith) c.split_at.ensures.front c.split_at.ensures.back c.row_in.ensures c.parts_of.ensures (omega (arith, c.loop-i.invariant.1)) c.in-Some.ensures.answer c.put.ensures.after c.loop-i.invariant.0 in
     (h.0, omega (arith, h.1, short, c.loop-i.invariant.1), omega (arith, c.loop-i.invariant.2))
 
 pub returns : goal.returns

@@ -11,27 +11,27 @@ loop-k-init g c = (start _ _ _, named_none c.args.s.now, λ x _. none_named c.ar
 pub returns-in-default : goal.returns-in-default
 returns-in-default g c = record { is = sym (c.loop-k.invariant.0 ∙ head_turn _ _ _ _ _ _ _ c.loop-k-test.true c.in-default.ensures.is); enough = enough }
 
-pub returns-then-is-empty : goal.returns-then-is-empty
-returns-then-is-empty g c = record { is = sym (c.loop-k.invariant.0 ∙ head_done _ _ _ _ _ _ _ _ c.loop-k-test.true c.in-Some.ensures.is c.if-is-empty.ensures); enough = enough }
+pub returns-then-is_empty : goal.returns-then-is_empty
+returns-then-is_empty g c = record { is = sym (c.loop-k.invariant.0 ∙ head_done _ _ _ _ _ _ _ _ c.loop-k-test.true c.in-Some.ensures.is c.if-is_empty.ensures); enough = enough }
 
 pub loop-k-preserved : goal.loop-k-preserved
 loop-k-preserved g c =
     let i = c.loop-k.invariant in
     let q = c.in-Some.ensures.is in
-    let r = c.in-Some-field-of.ensures in
+    let r = c.in-Some-field_of.ensures in
     let push = names_push c.loop-k.k c.args.s.now _ _ _ _ _ i.1 q r in (
-      i.0 ∙ head_more _ _ _ _ _ _ _ _ _ _ _ c.loop-k-test.true q c.if-is-empty.ensures r c.in-Ok.ensures
-          ∙ ap (λ ns. head g.F.Fields.taking (length c.args.s.now - (c.loop-k.k + 1)) ns (g.F.Fields.known c.take-field.new.fields) c.in-Some.next.now) (sym push),
+      i.0 ∙ head_more _ _ _ _ _ _ _ _ _ _ _ c.loop-k-test.true q c.if-is_empty.ensures r c.in-Ok.ensures
+          ∙ ap (λ ns. head g.F.Fields.taking (length c.args.s.now - (c.loop-k.k + 1)) ns (g.F.Fields.known c.take_field.new.fields) c.in-Some.next.now) (sym push),
       named_push c.loop-k.k c.args.s.now _ _ _ _ _ i.1 q r,
-      marked_push c.loop-k.marks c.loop-k.k c.args.s.now c.in-Some-field-of.name.now c.slot-of-slot.result i.2 c.slot-of-slot.ensures.is (omega arith) push,
+      marked_push c.loop-k.marks c.loop-k.k c.args.s.now c.in-Some-field_of.name.now c.slot_of-slot.result i.2 c.slot_of-slot.ensures.is (omega arith) push,
       length-set _ _ _ ∙ i.3,
     )
 
-pub returns-in-default-field-of : goal.returns-in-default-field-of
-returns-in-default-field-of g c = record { is = sym (c.loop-k.invariant.0 ∙ head_field _ _ _ _ _ _ _ _ _ c.loop-k-test.true c.in-Some.ensures.is c.if-is-empty.ensures c.in-default-field-of.ensures); enough = enough }
+pub returns-in-default-field_of : goal.returns-in-default-field_of
+returns-in-default-field_of g c = record { is = sym (c.loop-k.invariant.0 ∙ head_field _ _ _ _ _ _ _ _ _ c.loop-k-test.true c.in-Some.ensures.is c.if-is_empty.ensures c.in-default-field_of.ensures); enough = enough }
 
 pub returns-in-Err : goal.returns-in-Err
-returns-in-Err g c = record { is = sym (c.loop-k.invariant.0 ∙ head_more _ _ _ _ _ _ _ _ _ _ _ c.loop-k-test.true c.in-Some.ensures.is c.if-is-empty.ensures c.in-Some-field-of.ensures c.in-Err.ensures); enough = enough }
+returns-in-Err g c = record { is = sym (c.loop-k.invariant.0 ∙ head_more _ _ _ _ _ _ _ _ _ _ _ c.loop-k-test.true c.in-Some.ensures.is c.if-is_empty.ensures c.in-Some-field_of.ensures c.in-Err.ensures); enough = enough }
 
 pub returns : goal.returns
 returns g c = record { is = sym (c.loop-k.invariant.0 ∙ head-end _ _ _ _ _ _ c.loop-k-test.false); enough = enough }

@@ -6,9 +6,9 @@ use Rattle.lines.proofs.written.put_message.Goals as goal
 pub returns : goal.returns
 returns c =
     let e =
-    line_pieces c.args.first.now _ _ _ c.as-bytes.ensures
-    (line_pieces c.args.a.now _ _ _ c.as-bytes-2.ensures
-    (line_pieces c.args.b.now _ _ _ c.as-bytes-3.ensures
-    (line_pieces c.args.c.now _ _ _ c.as-bytes-4.ensures
-    (line_pieces c.args.last.now _ _ _ c.as-bytes-5.ensures (append-nil c.args.body.now))))) in
-    record { answer = c.put-all.ensures.answer ∙ ap (λ t. count t c.args.out.now) e; after = c.put-all.ensures.after ∙ ap (λ t. written t c.args.out.now) e }
+    line_pieces c.args.first.now _ _ _ c.as_bytes.ensures
+    (line_pieces c.args.a.now _ _ _ c.as_bytes-2.ensures
+    (line_pieces c.args.b.now _ _ _ c.as_bytes-3.ensures
+    (line_pieces c.args.c.now _ _ _ c.as_bytes-4.ensures
+    (line_pieces c.args.last.now _ _ _ c.as_bytes-5.ensures (append-nil c.args.body.now))))) in
+    record { answer = c.put_all.ensures.answer ∙ ap (λ t. count t c.args.out.now) e; after = c.put_all.ensures.after ∙ ap (λ t. written t c.args.out.now) e }

@@ -5,4 +5,4 @@ pub loop-n-init : goal.loop-n-init
 loop-n-init c = new_fresh c.in-ok-servers.servers c.args.sites.now c.in-ok-servers.ensures
 
 pub loop-n-preserved : goal.loop-n-preserved
-loop-n-preserved c = c.load-one.ensures c.args.sites.now c.loop-n.invariant
+loop-n-preserved c = c.load_one.ensures c.args.sites.now c.loop-n.invariant

@@ -28,16 +28,16 @@ more t n k e =
     let r = row t n k e in
     omega (arith, few t, length-map (rows t) row_of, nth-within (rows t) n r.0 (sym r.1))
 
-pub returns-then-same-site : goal.returns-then-same-site
+pub returns-then-same_site : goal.returns-then-same_site
 unfolding rows
-returns-then-same-site c =
+returns-then-same_site c =
     let t = c.args.table.now in
     let s = site_of c.args.site in
     let n = c.loop-known.n in
     let e = c.in-Some.ensures in
     let r = row t n c.in-Some.known e in
     c.new.ensures ∙ cond-true (ltb n 16) (Some n) None (lt-ltb n 16 (omega (arith, more t n c.in-Some.known e)))
-    ∙ number_found row_of s (rows t) n c.loop-known.invariant.0 r.0 r.1 (ap (same_site s) r.2 ∙ sym (same_is s (site_of c.in-Some.known) true c.if-same-site.ensures))
+    ∙ number_found row_of s (rows t) n c.loop-known.invariant.0 r.0 r.1 (ap (same_site s) r.2 ∙ sym (same_is s (site_of c.in-Some.known) true c.if-same_site.ensures))
 
 pub loop-known-smaller : goal.loop-known-smaller
 loop-known-smaller c = omega (arith, more c.args.table.now c.loop-known.n c.in-Some.known c.in-Some.ensures)
@@ -50,7 +50,7 @@ loop-known-preserved c =
     let n = c.loop-known.n in
     let e = c.in-Some.ensures in
     let r = row t n c.in-Some.known e in
-    (place-next row_of s (rows t) n c.loop-known.invariant.0 r.0 r.1 (ap (same_site s) r.2 ∙ sym (same_is s (site_of c.in-Some.known) false c.if-same-site.ensures)), more t n c.in-Some.known e)
+    (place-next row_of s (rows t) n c.loop-known.invariant.0 r.0 r.1 (ap (same_site s) r.2 ∙ sym (same_is s (site_of c.in-Some.known) false c.if-same_site.ensures)), more t n c.in-Some.known e)
 
 pub returns : goal.returns
 unfolding rows

@@ -6,6 +6,6 @@ pub returns : goal.returns
 returns c =
     let t = text_of c.args.pieces.now in
     record {
-      answer = c.put-from.ensures.answer ∙ count_start t c.args.out.now;
-      after = c.put-from.ensures.after ∙ written_start t c.args.out.now;
+      answer = c.put_from.ensures.answer ∙ count_start t c.args.out.now;
+      after = c.put_from.ensures.after ∙ written_start t c.args.out.now;
     }

@@ -7,11 +7,11 @@ use Rattle.octets.proofs.pieces.put_from.Goals as goal
 
 pub loop-p-init : goal.loop-p-init
 loop-p-init c =
-    let h = room_fits (text_of c.args.pieces.now) c.in-Some.room c.in-Some-room-after.field-0 c.in-Some-room-after.ensures in
+    let h = room_fits (text_of c.args.pieces.now) c.in-Some.room c.in-Some-room_after.field-0 c.in-Some-room_after.ensures in
     (refl, refl, omega arith)
 
-pub slice-bounds-copy-from-slice-end : goal.slice-bounds-copy-from-slice-end
-slice-bounds-copy-from-slice-end c = omega (arith, c.loop-p.invariant.1, c.loop-p.invariant.2, text_long _ _ c.loop-p-test.true)
+pub slice_bounds-copy_from_slice-end : goal.slice_bounds-copy_from_slice-end
+slice_bounds-copy_from_slice-end c = omega (arith, c.loop-p.invariant.1, c.loop-p.invariant.2, text_long _ _ c.loop-p-test.true)
 
 pub loop-p-preserved : goal.loop-p-preserved
 loop-p-preserved c =
@@ -21,7 +21,7 @@ loop-p-preserved c =
     let long = text_long _ _ c.loop-p-test.true in
     let k : length p ≡ c.loop-p.at + length p - c.loop-p.at = omega arith in
     let h : c.loop-p.at + length p ≤ length c.loop-p.out = omega (arith, i.1, i.2, long) in (
-      i.0 ∙ ap (over c.loop-p.at c.loop-p.out) (text_more _ _ c.loop-p-test.true) ∙ sym (over-more c.loop-p.at c.loop-p.out p t h) ∙ (λ j. over (c.loop-p.at + length p) (put_mid c.loop-p.at (k j) c.loop-p.out (sym c.copy-from-slice.ensures.after j)) t),
+      i.0 ∙ ap (over c.loop-p.at c.loop-p.out) (text_more _ _ c.loop-p-test.true) ∙ sym (over-more c.loop-p.at c.loop-p.out p t h) ∙ (λ j. over (c.loop-p.at + length p) (put_mid c.loop-p.at (k j) c.loop-p.out (sym c.copy_from_slice.ensures.after j)) t),
       omega (arith, i.1, long),
       i.2,
     )

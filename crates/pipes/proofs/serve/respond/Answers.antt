@@ -5,11 +5,11 @@ use Rattle.pipes.proofs.serve.respond.Goals as goal
 
 pub returns : goal.returns
 returns g c =
-    let known = ap (λ n. is_some (nth n (table_of c.args.table.now))) c.number.ensures.is ∙ ap is_some c.in-Some-number-of.ensures in
+    let known = ap (λ n. is_some (nth n (table_of c.args.table.now))) c.number.ensures.is ∙ ap is_some c.in-Some-number_of.ensures in
     record {
       within = c.exchange.ensures.within;
       served = (
-        record { site = c.number.result; request = take (c.in-Some.len - 0) c.read-bytes.new.room; answer = take c.exchange.result c.exchange.new.room } ∷ [],
+        record { site = c.number.result; request = take (c.in-Some.len - 0) c.read_bytes.new.room; answer = take c.exchange.result c.exchange.new.room } ∷ [],
         (c.args.servers.now, refl, c.exchange.ensures.exchange, known),
       );
     }

@@ -39,7 +39,7 @@ loop-i-preserved c =
       λ h.
           let k = each_at opening_ok open_of (items_of c.args.opens.now) c.loop-i.i o h.1 e in
           let f = some_same (opening_of c.in-Some-opening.opening) (open_of o) (fits o _ c.in-Some-opening.ensures k) in
-          ap (map opening_of) c.push-reserved.ensures.items ∙ map_push opening_of (vec_items c.loop-i.list) c.in-Some-opening.opening
+          ap (map opening_of) c.push_reserved.ensures.items ∙ map_push opening_of (vec_items c.loop-i.list) c.in-Some-opening.opening
           ∙ ap (λ z. z ++ (opening_of c.in-Some-opening.opening ∷ [])) (c.loop-i.invariant.2 h) ∙ ap (λ z. take c.loop-i.i (opens_in c.args.opens.now) ++ (z ∷ [])) f
           ∙ sym (take_next open_of (items_of c.args.opens.now) c.loop-i.i o e),
     )

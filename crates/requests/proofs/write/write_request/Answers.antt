@@ -16,11 +16,11 @@ returns c =
     let asking = asking_of c.args.q in
     let text = request_text asking in
     let out = c.args.out.now in
-    let e : line_text c.of-first.result ++ (line_text c.of-site-host.result ++ (line_text c.origin-line-origin.result ++ (line_text c.of-token-token.result ++ (line_text c.of-number-length.result ++ body)))) ≡ text =
-    λ i. c.of-first.ensures i ++ (c.of-site-host.ensures i ++ (c.origin-line-origin.ensures i ++ (c.of-token-token.ensures i ++ (c.of-number-length.ensures i ++ body)))) in
-    let answer : c.put-message.result ≡ count text out = c.put-message.ensures.answer ∙ ap (λ t. count t out) e in
-    let after : c.put-message.new.out ≡ written text out = c.put-message.ensures.after ∙ ap (λ t. written t out) e in
-    let can = sym c.if-not-can-write.ensures in
+    let e : line_text c.of-first.result ++ (line_text c.of_site-host.result ++ (line_text c.origin_line-origin.result ++ (line_text c.of_token-token.result ++ (line_text c.of_number-length.result ++ body)))) ≡ text =
+    λ i. c.of-first.ensures i ++ (c.of_site-host.ensures i ++ (c.origin_line-origin.ensures i ++ (c.of_token-token.ensures i ++ (c.of_number-length.ensures i ++ body)))) in
+    let answer : c.put_message.result ≡ count text out = c.put_message.ensures.answer ∙ ap (λ t. count t out) e in
+    let after : c.put_message.new.out ≡ written text out = c.put_message.ensures.after ∙ ap (λ t. written t out) e in
+    let can = sym c.if-not-can_write.ensures in
     record {
       answer = answer ∙ sym (cond-true _ _ _ can);
       after = after ∙ sym (cond-true _ _ _ can);

@@ -54,7 +54,7 @@ returns g c =
             ∙ ap (λ z. finished table (window_in e) q a z) begun-so.part
             ∙ ended_so table a b e (begun (scripts_in c.args.browser) e b);
         noted =
-            ap {B = Entry} (λ z. record { event = e; site = z; fault = last.fault; outs = outs_of last.page ++ outs_of last.server }) c.site-of-site.ensures
+            ap {B = Entry} (λ z. record { event = e; site = z; fault = last.fault; outs = outs_of last.page ++ outs_of last.server }) c.site_of-site.ensures
             ∙ ap {B = Entry} (λ z. record { event = e; site = site_in e b; fault = z; outs = outs_of last.page ++ outs_of last.server }) fault
             ∙ ap {B = Entry} (λ z. record { event = e; site = site_in e b; fault = (entry_for table e a b).fault; outs = z }) outs;
       };

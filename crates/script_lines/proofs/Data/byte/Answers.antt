@@ -6,7 +6,7 @@ use Rattle.script_lines.proofs.Data.byte.Goals as goal
 
 pub returns-then-i-self : goal.returns-then-i-self
 returns-then-i-self c =
-    c.pair-value.ensures
+    c.pair_value.ensures
     ∙ sym (pair_at_lem c.args.self.source.now c.args.i c.if-i-self.true)
     ∙ sym (ap (λ hex. get_or (bytes_of hex c.args.self.source.now) c.args.i 0) c.if-self.true)
 

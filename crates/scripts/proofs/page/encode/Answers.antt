@@ -10,9 +10,9 @@ use Rattle.scripts.proofs.page.encode.Goals as goal
 pub loop-i-preserved : goal.loop-i-preserved
 loop-i-preserved c =
     let within : c.loop-i.i < length c.args.steps.now = omega arith in
-    let new = c.copy-from-slice.ensures.after ∙ c.step.ensures.bytes in
-    let eight : length c.copy-from-slice.new.self ≡ 8 = omega (arith, simp (length-take, length-drop) at c.copy-from-slice.ensures.len) in (
-      take-put_mid (c.loop-i.i * 8) _ c.loop-i.out c.copy-from-slice.new.self _ (omega arith) (omega arith)
+    let new = c.copy_from_slice.ensures.after ∙ c.step.ensures.bytes in
+    let eight : length c.copy_from_slice.new.self ≡ 8 = omega (arith, simp (length-take, length-drop) at c.copy_from_slice.ensures.len) in (
+      take-put_mid (c.loop-i.i * 8) _ c.loop-i.out c.copy_from_slice.new.self _ (omega arith) (omega arith)
           ∙ joined_step _ _ _ _ _ within c.loop-i.invariant.0 new,
       All-more ReadBack _ _ _ within c.loop-i.invariant.1 c.step.ensures.back,
     )

@@ -14,8 +14,8 @@ returns-then-not-head c =
     let t = me.opens in
     let most : length (opens_in t) ≤ 16 = omega (arith, length-take t.len t.items, length-map (items_of t) open_of, c.requires.1.full) in
     let fits = cond-some _ _ _ (sym c.in-Some.ensures.is) in
-    let h = added-site (settings_of me) (head_of c.args.head) (sites_in c.name-site.new.sites) c.in-Some.n fits.0 (c.name-site.ensures.left ∙ cond-true _ _ _ fits.0) (sym (some_same _ _ fits.1)) c.if-not-head.true most in
-    record { is = h.0; left = λ _. h.1; sound = (c.name-site.ensures.sound, c.requires.1) }
+    let h = added-site (settings_of me) (head_of c.args.head) (sites_in c.name_site.new.sites) c.in-Some.n fits.0 (c.name_site.ensures.left ∙ cond-true _ _ _ fits.0) (sym (some_same _ _ fits.1)) c.if-not-head.true most in
+    record { is = h.0; left = λ _. h.1; sound = (c.name_site.ensures.sound, c.requires.1) }
 
 pub returns : goal.returns
 returns c =
@@ -23,8 +23,8 @@ returns c =
     let t = me.opens in
     let fits = cond-some _ _ _ (sym c.in-Some.ensures.is) in
     let room = cond-some _ _ _ (sym c.in-Some-push.ensures.is) in
-    let h = added_window (settings_of me) (head_of c.args.head) (sites_in c.name-site.new.sites) c.in-Some.n fits.0 (c.name-site.ensures.left ∙ cond-true _ _ _ fits.0) (sym (some_same _ _ fits.1)) c.if-not-head.false
+    let h = added_window (settings_of me) (head_of c.args.head) (sites_in c.name_site.new.sites) c.in-Some.n fits.0 (c.name_site.ensures.left ∙ cond-true _ _ _ fits.0) (sym (some_same _ _ fits.1)) c.if-not-head.false
     (opens_in c.push.new.self) true
     (sym (ap (λ k. ltb k 16) (length-map (items_of t) open_of) ∙ room.0))
     (λ _. ap (map open_of) (c.push.ensures.left ∙ cond-true _ _ _ room.0) ∙ map-append open_of (items_of t) _) in
-    record { is = h.0; left = h.1; sound = (c.name-site.ensures.sound, c.push.ensures.sound) }
+    record { is = h.0; left = h.1; sound = (c.name_site.ensures.sound, c.push.ensures.sound) }

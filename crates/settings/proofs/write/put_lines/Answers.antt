@@ -7,22 +7,22 @@ use Rattle.settings.specs.Unwritten.{number_text, line_of, left_of}
 use Rattle.settings.proofs.Unwriting.{with_newline, put_line, put-fits, none_left}
 use Rattle.settings.proofs.write.put_lines.Goals as goal
 
-pub returns-in-default-put-line : goal.returns-in-default-put-line
-returns-in-default-put-line c =
+pub returns-in-default-put_line : goal.returns-in-default-put_line
+returns-in-default-put_line c =
     let l = c.in-Some.line in
-    let n = c.as-bytes.result.now in
+    let n = c.as_bytes.result.now in
     let fits : c.loop-line.at + length (ended (left_of c.loop-line.left)) ≤ length c.loop-line.out = omega (arith, c.loop-line.invariant.1, c.loop-line.invariant.2) in
     absurd (put-fits (left_of c.loop-line.left) (left_of c.next.new.self) (line_of l) (l.word.now ++ (l.host.now ++ (n ++ (l.end.now ++ (10 ∷ []))))) c.in-Some.ensures.is c.next.ensures.left
-    (with_newline l.word.now l.host.now n (number_text l.number) l.end.now (c.as-bytes.ensures ∙ c.number-text-number.ensures))
-    c.loop-line.at c.loop-line.out fits c.in-default-put-line.ensures.answer)
+    (with_newline l.word.now l.host.now n (number_text l.number) l.end.now (c.as_bytes.ensures ∙ c.number_text-number.ensures))
+    c.loop-line.at c.loop-line.out fits c.in-default-put_line.ensures.answer)
 
 pub loop-line-preserved : goal.loop-line-preserved
 loop-line-preserved c =
     let l = c.in-Some.line in
-    let n = c.as-bytes.result.now in
+    let n = c.as_bytes.result.now in
     let h = put_line (left_of c.loop-line.left) (left_of c.next.new.self) (line_of l) (l.word.now ++ (l.host.now ++ (n ++ (l.end.now ++ (10 ∷ []))))) c.in-Some.ensures.is c.next.ensures.left
-    (with_newline l.word.now l.host.now n (number_text l.number) l.end.now (c.as-bytes.ensures ∙ c.number-text-number.ensures))
-    c.loop-line.at c.in-Some-put-line.next c.loop-line.out c.put_line.new.out c.in-Some-put-line.ensures.answer c.put_line.ensures.after in
+    (with_newline l.word.now l.host.now n (number_text l.number) l.end.now (c.as_bytes.ensures ∙ c.number_text-number.ensures))
+    c.loop-line.at c.in-Some-put_line.next c.loop-line.out c.put_line.new.out c.in-Some-put_line.ensures.answer c.put_line.ensures.after in
     (c.loop-line.invariant.0 ∙ h.0, h.1 ∙ c.loop-line.invariant.1, c.loop-line.invariant.2)
 
 pub returns : goal.returns

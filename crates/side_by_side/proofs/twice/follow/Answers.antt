@@ -93,17 +93,17 @@ module _ (g : given.Over) (site : SiteNumber) (room : ℕ) (agenda : Plan) (one 
 pub loop-due-init : goal.loop-due-init
 loop-due-init g c = (refl, sym c.requires.sites, refl, refl, (0, refl, none g c.args.site (length c.args.answer.now) c.args.agenda c.args.one c.args.two c.args.first c.args.second c.requires.alike))
 
-pub returns-then-not-same-let-out : goal.returns-then-not-same-let-out
-returns-then-not-same-let-out g c =
+pub returns-then-not-same_let_out : goal.returns-then-not-same_let_out
+returns-then-not-same_let_out g c =
     let i = c.loop-due.invariant in
     let kept : length c.loop-due.answer ≡ length c.args.answer.now = c.loop-due.auto.answer in
     let E = events g c.args.site (length c.args.answer.now) c.args.agenda c.args.one c.args.two c.args.first c.args.second c.requires.alike i.4.0 c.in-Some.due c.windows.result.now
     c.loop-due.one c.happen-a.result.browser c.loop-due.two c.happen-b.result.browser c.loop-due.first c.happen-a.new.carrier c.loop-due.second c.happen-b.new.carrier c.loop-due.agenda c.next.new.self
     c.happen-a.result.record c.happen-b.result.record _ _ _ _ i.4.2 c.windows.ensures.is c.in-Some.ensures.event c.in-Some.ensures.rest i.0 i.1 kept (c.happen-a.auto.answer ∙ kept) i.2 i.3 c.happen-a.ensures.occurs c.happen-b.ensures.occurs in
-    (i.4.0, i.4.1, till g c.args.site (length c.args.answer.now) c.args.agenda c.args.one c.args.two c.args.first c.args.second c.requires.alike i.4.0 _ _ i.4.2, E.apart (λ l. false≢true (sym c.if-not-same-let-out.true ∙ c.same-let-out.ensures.1 l)))
+    (i.4.0, i.4.1, till g c.args.site (length c.args.answer.now) c.args.agenda c.args.one c.args.two c.args.first c.args.second c.requires.alike i.4.0 _ _ i.4.2, E.apart (λ l. false≢true (sym c.if-not-same_let_out.true ∙ c.same_let_out.ensures.1 l)))
 
-pub returns-in-Some-find-leak : goal.returns-in-Some-find-leak
-returns-in-Some-find-leak g c =
+pub returns-in-Some-find_leak : goal.returns-in-Some-find_leak
+returns-in-Some-find_leak g c =
     let i = c.loop-due.invariant in
     let kept : length c.loop-due.answer ≡ length c.args.answer.now = c.loop-due.auto.answer in
     let E = events g c.args.site (length c.args.answer.now) c.args.agenda c.args.one c.args.two c.args.first c.args.second c.requires.alike i.4.0 c.in-Some.due c.windows.result.now
@@ -114,8 +114,8 @@ returns-in-Some-find-leak g c =
     let e : Event = event_of c.in-Some.due in
     let left = on_wire_lem h 4096 table (sites_in c.loop-due.one) (length c.loop-due.sent) e (part_of c.loop-due.one) c.happen-a.result.asked (take c.happen-a.result.sent c.happen-a.new.request) i.0 i.2 c.happen-a.ensures.asked c.happen-a.ensures.sent in
     let right = on_wire_lem h 4096 table (sites_in c.loop-due.two) (length c.loop-due.other) e (part_of c.loop-due.two) c.happen-b.result.asked (take c.happen-b.result.sent c.happen-b.new.request) i.1 i.3 c.happen-b.ensures.asked c.happen-b.ensures.sent in
-    let none = E.unleaked (c.same-let-out.ensures.0 c.if-not-same-let-out.false) in
-    false≢true (c.in-Some-find-leak.ensures.1 (record { alike = none.alike; outs = none.outs; requests = left ∙ none.requests ∙ sym right }))
+    let none = E.unleaked (c.same_let_out.ensures.0 c.if-not-same_let_out.false) in
+    false≢true (c.in-Some-find_leak.ensures.1 (record { alike = none.alike; outs = none.outs; requests = left ∙ none.requests ∙ sym right }))
 
 pub loop-due-smaller : goal.loop-due-smaller
 loop-due-smaller g c =
@@ -132,7 +132,7 @@ loop-due-preserved g c =
       c.happen-b.ensures.sites ∙ i.1,
       c.happen-a.auto.request ∙ i.2,
       c.happen-b.auto.request ∙ i.3,
-      (suc i.4.0, one_more c.loop-due.event i.4.0 c.saturating-add-event.result i.4.1 c.saturating-add-event.ensures, E.more (c.same-let-out.ensures.0 c.if-not-same-let-out.false)),
+      (suc i.4.0, one_more c.loop-due.event i.4.0 c.saturating_add-event.result i.4.1 c.saturating_add-event.ensures, E.more (c.same_let_out.ensures.0 c.if-not-same_let_out.false)),
     )
 
 pub returns : goal.returns

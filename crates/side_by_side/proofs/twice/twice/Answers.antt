@@ -15,13 +15,13 @@ use Rattle.runs.specs.Exact.{sites_with}
 use Rattle.side_by_side.specs.Verdicts.{Truly}
 use Rattle.side_by_side.proofs.twice.twice.Goals as goal
 
-pub returns-then-not-same-worlds : goal.returns-then-not-same-worlds
-returns-then-not-same-worlds g c = λ a.
+pub returns-then-not-same_worlds : goal.returns-then-not-same_worlds
+returns-then-not-same_worlds g c = λ a.
     let both : Part State → Part State → Type 0 = λ b d. Alike (only (number_of c.args.site)) (world b (g.S.Servers.states c.args.first)) (world d (g.S.Servers.states c.args.second)) in
-    false≢true (sym c.if-not-same-worlds.true ∙ c.same-worlds.ensures.1 (subst₂ (λ b d. both b d) (sym c.in-ok-one.ensures.part) (sym c.in-ok-two.ensures.part) a))
+    false≢true (sym c.if-not-same_worlds.true ∙ c.same_worlds.ensures.1 (subst₂ (λ b d. both b d) (sym c.in-ok-one.ensures.part) (sym c.in-ok-two.ensures.part) a))
 
 pub follow-requires : goal.follow-requires
-follow-requires g c = record { sites = c.in-ok-one.ensures.sites ∙ sym c.in-ok-two.ensures.sites; alike = c.same-worlds.ensures.0 c.if-not-same-worlds.false }
+follow-requires g c = record { sites = c.in-ok-one.ensures.sites ∙ sym c.in-ok-two.ensures.sites; alike = c.same_worlds.ensures.0 c.if-not-same_worlds.false }
 
 pub returns : goal.returns
 returns g c =

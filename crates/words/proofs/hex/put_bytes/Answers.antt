@@ -32,11 +32,11 @@ returns-then-word-room c =
 pub loop-b-init : goal.loop-b-init
 loop-b-init c =
     let w = c.args.word.now in
-    let kept = same_len_mid c.args.from (c.args.from + length w - c.args.from) c.args.out.now c.copy-from-slice.new.self c.copy-from-slice.ensures.len in
+    let kept = same_len_mid c.args.from (c.args.from + length w - c.args.from) c.args.out.now c.copy_from_slice.new.self c.copy_from_slice.ensures.len in
     (refl, refl, omega (arith, c.in-Some.ensures, length_hex c.args.bytes.now))
 
-pub slice-bounds-copy-from-slice-end-in-loop-b : goal.slice-bounds-copy-from-slice-end-in-loop-b
-slice-bounds-copy-from-slice-end-in-loop-b c =
+pub slice_bounds-copy_from_slice-end-in-loop-b : goal.slice_bounds-copy_from_slice-end-in-loop-b
+slice_bounds-copy_from_slice-end-in-loop-b c =
     let bs = c.args.bytes.now in
     omega (arith, c.loop-b.invariant.1, c.loop-b.invariant.2, length_hex (drop c.loop-b.b-index bs), length-drop c.loop-b.b-index bs)
 
@@ -56,7 +56,7 @@ loop-b-preserved c =
       i.0
           ∙ ap (over at c.loop-b.out) more
           ∙ sym (over-more at c.loop-b.out p t h)
-          ∙ (λ j. over (at + 2) (put_mid at (k j) c.loop-b.out (sym (c.copy-from-slice-in-loop-b.ensures.after ∙ c.pair-of.ensures) j)) t),
+          ∙ (λ j. over (at + 2) (put_mid at (k j) c.loop-b.out (sym (c.copy_from_slice-in-loop-b.ensures.after ∙ c.pair_of.ensures) j)) t),
       omega (arith, i.1, long),
       i.2,
     )
@@ -71,13 +71,13 @@ returns c =
     let hex = length_hex bs in
     let long = length-append w (hex_of bs) in
     let none : hex_of (drop c.loop-b.b-index bs) ≡ [] = at_drop_all hex_of bs c.loop-b.b-index c.loop-b-test.false in
-    let kept = same_len_mid from (from + length w - from) out c.copy-from-slice.new.self c.copy-from-slice.ensures.len in
+    let kept = same_len_mid from (from + length w - from) out c.copy_from_slice.new.self c.copy_from_slice.ensures.len in
     let room : from + length (w ++ hex_of bs) ≤ length out = omega (arith, i.2, kept, long) in
     let fits = le-leb (from + length (w ++ hex_of bs)) (length out) room in
     let whole : c.loop-b.at ≡ from + length (w ++ hex_of bs) = omega (arith, i.1, ap length none, long) in
     let k : length w ≡ from + length w - from = omega arith in
-    let start : over (from + length w) (put_mid from (from + length w - from) out c.copy-from-slice.new.self) (hex_of bs) ≡ over from out (w ++ hex_of bs) =
-    sym (λ j. over (from + length w) (put_mid from (k j) out (sym c.copy-from-slice.ensures.after j)) (hex_of bs)) ∙ over-more from out w (hex_of bs) (omega (arith, room, long)) in
+    let start : over (from + length w) (put_mid from (from + length w - from) out c.copy_from_slice.new.self) (hex_of bs) ≡ over from out (w ++ hex_of bs) =
+    sym (λ j. over (from + length w) (put_mid from (k j) out (sym c.copy_from_slice.ensures.after j)) (hex_of bs)) ∙ over-more from out w (hex_of bs) (omega (arith, room, long)) in
     record {
       answer = ap Some whole ∙ sym (cond-true _ _ _ fits);
       after = sym (over_none c.loop-b.at c.loop-b.out) ∙ sym (ap (over c.loop-b.at c.loop-b.out) none) ∙ sym i.0 ∙ start ∙ sym (cond-true _ _ _ fits);

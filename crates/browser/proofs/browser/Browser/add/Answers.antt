@@ -11,7 +11,7 @@ use Rattle.browser.proofs.browser.Browser.add.Goals as goal
 
 pub returns : goal.returns
 returns c = record {
-  part = ap (λ z. with-windows z (part_of c.args.self.now)) (pushed window_of (vec_items c.args.self.now.windows) _ _ _ c.push-reserved.ensures.items (c.new-window.ensures ∙ ap (opened (number_of c.args.need.now.site) (text_of c.args.need.now.path)) c.script-of-unreadable.ensures.steps));
-  fault = c.page-fault.ensures ∙ ap unreadable_number c.script-of-unreadable.ensures.fault ∙ steps_fault_lem (page_in c.args.page.now);
+  part = ap (λ z. with-windows z (part_of c.args.self.now)) (pushed window_of (vec_items c.args.self.now.windows) _ _ _ c.push_reserved.ensures.items (c.new-window.ensures ∙ ap (opened (number_of c.args.need.now.site) (text_of c.args.need.now.path)) c.script_of-unreadable.ensures.steps));
+  fault = c.page_fault.ensures ∙ ap unreadable_number c.script_of-unreadable.ensures.fault ∙ steps_fault_lem (page_in c.args.page.now);
   rest = refl;
 }

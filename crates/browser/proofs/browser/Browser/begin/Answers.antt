@@ -39,17 +39,17 @@ returns c =
     let first = same_place ws i c.index.result.now x c.index.ensures at_i inside in
     let after = placed_there ws i c.index-2.result.now y c.index-2.ensures inside in
     let site = c.site-site.ensures ∙ ap (λ (z : Window). (window_of z).site) first in
-    let act = c.deed-of-deed.ensures
+    let act = c.deed_of-deed.ensures
     ∙ ap (λ (z : Window). act_by (done_in outcome (window_of z).state.memory)) after
     ∙ c.step-outcome.ensures.act
     ∙ ap (λ n. act_of (by_machine n) (window_of x)) count in
     let steps = c.step-outcome.ensures.window ∙ ap (λ n. stepped (by_machine n) (window_of x)) count in
     let ran = c.step-outcome.ensures.outcome ∙ ap (λ n. outcome_in n (window_of x).state (told_now (window_of x))) count in
-    let half = first_half window_of (scripts_in b) ws (part_of b).tokens (part_of b).kept i x y (number_of c.site-site.result) (deed_of c.deed-of-deed.result) at_i site act steps inside in
+    let half = first_half window_of (scripts_in b) ws (part_of b).tokens (part_of b).kept i x y (number_of c.site-site.result) (deed_of c.deed_of-deed.result) at_i site act steps inside in
     record {
       part = half.0 _ c.act-need.ensures.part;
       goal = half.1.0 _ c.act-need.ensures.need;
-      out = half.1.1.0 _ c.page-out-out.ensures;
+      out = half.1.1.0 _ c.page_out-out.ensures;
       fault = half.1.1.1 _ (length (sites_in b)) outcome c.fault.ensures ran;
       rest = (refl, ap table_of c.act-need.ensures.rest);
     }

@@ -11,6 +11,6 @@ returns c =
     let b = c.args.self.now.browser in
     let some = ap (option_map (need_of (tokens_of b.tokens))) c.in-Some.is in
     record {
-      count = c.write-request.ensures.answer ∙ is_counted (sites_in b) _ _ _ c.args.room.now some c.asking.ensures;
-      room = c.write-request.ensures.after ∙ is_written (sites_in b) _ _ _ c.args.room.now some c.asking.ensures;
+      count = c.write_request.ensures.answer ∙ is_counted (sites_in b) _ _ _ c.args.room.now some c.asking.ensures;
+      room = c.write_request.ensures.after ∙ is_written (sites_in b) _ _ _ c.args.room.now some c.asking.ensures;
     }

@@ -31,4 +31,4 @@ returns c =
     let x : Here = c.args.self.now in
     let e : ◌≡◌ {A = Option Due} (due c.args.windows (agenda_of x)) (due c.args.windows (only_lines (lines_of x))) =
     ap {B = Option Due} (due c.args.windows) (all_open to_open x.opens x.opened x.next x.end (lines_of x) (omega arith) (omega arith)) in
-    record { event = c.next-line.ensures.event ∙ sym (ap event_in e); rest = c.next-line.ensures.rest ∙ sym (ap rest_of e) }
+    record { event = c.next_line.ensures.event ∙ sym (ap event_in e); rest = c.next_line.ensures.rest ∙ sym (ap rest_of e) }

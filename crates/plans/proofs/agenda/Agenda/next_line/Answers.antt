@@ -14,7 +14,7 @@ past x y h l a b d e = let f : vec_len y.opens ≡ vec_len x.opens = ap vec_len 
 
 pub returns-in-Window : goal.returns-in-Window
 returns-in-Window c =
-    let x : Here = c.take-line.new.self in
+    let x : Here = c.take_line.new.self in
     let t = c.in-Some.ensures in
     let i = c.loop-line.invariant in
     let e : ◌≡◌ {A = Option Due} (line_due c.args.windows (lines_of c.args.self.now)) (turn_due c.in-Window.window [] (lines_of x)) =
@@ -27,7 +27,7 @@ returns-in-Window c =
 
 pub returns-then-windows-gt0 : goal.returns-then-windows-gt0
 returns-then-windows-gt0 c =
-    let x : Here = c.take-line.new.self in
+    let x : Here = c.take_line.new.self in
     let t = c.in-Some.ensures in
     let i = c.loop-line.invariant in
     let n : ℕ = c.in-Rounds.n in
@@ -47,7 +47,7 @@ returns-then-windows-gt0 c =
 
 pub loop-line-preserved : goal.loop-line-preserved
 loop-line-preserved c =
-    let x : Here = c.take-line.new.self in
+    let x : Here = c.take_line.new.self in
     let t = c.in-Some.ensures in
     let i = c.loop-line.invariant in
     let n : ℕ = c.in-Rounds.n in
@@ -58,7 +58,7 @@ loop-line-preserved c =
 
 pub returns : goal.returns
 returns c =
-    let x : Here = c.take-line.new.self in
+    let x : Here = c.take_line.new.self in
     let t = c.in-default.ensures in
     let i = c.loop-line.invariant in
     let e : ◌≡◌ {A = Option Due} (line_due c.args.windows (lines_of c.args.self.now)) None =

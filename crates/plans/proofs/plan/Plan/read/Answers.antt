@@ -19,7 +19,7 @@ returns c =
       g,
       e,
       record {
-        sites = c.table-of.ensures (all-sites s g e);
+        sites = c.table_of.ensures (all-sites s g e);
         agenda = fresh (map to_open (vec_items c.in-Ok-openings.opens)) (planned g).lines ∙ ap {B = Agenda} (λ z. record { opens = z; round = []; lines = (planned g).lines }) os;
       },
     )

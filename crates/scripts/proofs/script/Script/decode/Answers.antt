@@ -6,13 +6,13 @@ use Rattle.scripts.proofs.script.Script.decode.Goals as goal
 
 pub returns-in-default : goal.returns-in-default
 returns-in-default c =
-    sym (onto_unknown _ _ _ (omega arith) (c.in-default.ensures ∙ ap step_in c.split-at.ensures.front)) ∙ c.loop-i.invariant.0
+    sym (onto_unknown _ _ _ (omega arith) (c.in-default.ensures ∙ ap step_in c.split_at.ensures.front)) ∙ c.loop-i.invariant.0
 
 pub loop-i-preserved : goal.loop-i-preserved
 loop-i-preserved c =
     let within : c.loop-i.i < length c.loop-i.steps = omega arith in (
-      onto_more _ _ _ _ _ _ _ (omega arith) (c.in-Some.ensures ∙ ap step_in c.split-at.ensures.front)
-          (take_more_set c.loop-i.steps c.loop-i.i c.in-Some.step within) c.split-at.ensures.back
+      onto_more _ _ _ _ _ _ _ (omega arith) (c.in-Some.ensures ∙ ap step_in c.split_at.ensures.front)
+          (take_more_set c.loop-i.steps c.loop-i.i c.in-Some.step within) c.split_at.ensures.back
           ∙ c.loop-i.invariant.0,
       omega arith,
       simp length-set (omega arith),

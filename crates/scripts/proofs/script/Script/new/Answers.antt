@@ -5,6 +5,6 @@ use Rattle.scripts.proofs.script.Script.new.Goals as goal
 
 pub returns : goal.returns
 returns c =
-    let copied = c.copy-from-slice.ensures.after in
+    let copied = c.copy_from_slice.ensures.after in
     ap Some (take_at _ _ _ (ap length copied) ∙ copied)
     ∙ sym (cond-true (leb (length c.args.steps.now) 2000) _ _ (le-leb _ _ (omega arith)))

@@ -18,7 +18,7 @@ returns c =
     let page = c.args.page.now in
     let same = c.steps-steps.ensures.steps in
     let room : 8 + length steps * 8 ≤ length page = omega arith in
-    let put = file_put steps page _ _ _ (c.copy-from-slice.ensures.after ∙ c.first-bytes.ensures) c.encode.ensures.bytes (omega arith) in
+    let put = file_put steps page _ _ _ (c.copy_from_slice.ensures.after ∙ c.first_bytes.ensures) c.encode.ensures.bytes (omega arith) in
     record {
       size = size_fits steps page room ∙ ap (λ xs. written_size (page_of xs) page) same;
       bytes = file_written steps page _ room put ∙ ap (λ xs. written (page_of xs) page) same;

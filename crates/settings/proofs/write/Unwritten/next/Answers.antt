@@ -54,4 +54,4 @@ returns c =
     let whole = first_and (turns_of (lines u.settings.turns.text.now)) (turns_of (lines t.text.now)) c.in-Some-next.turn c.in-Some-next.ensures.is c.next.ensures.left in
     let h = left-turns site_of open_of (items_of u.settings.sites) (items_of u.settings.opens) (turns_of (lines u.settings.turns.text.now)) u.sites u.opens c.in-default.ensures.is c.in-default-get.ensures.is ∙ ap (map turn_text) whole in
     let g = left-turns site_of open_of (items_of u.settings.sites) (items_of u.settings.opens) (turns_of (lines t.text.now)) u.sites u.opens c.in-default.ensures.is c.in-default-get.ensures.is in
-    record { is = ap Some c.turn-text.ensures ∙ sym (ap (λ l. slice_get l 0) h); left = g ∙ sym (ap (drop 1) h) }
+    record { is = ap Some c.turn_text.ensures ∙ sym (ap (λ l. slice_get l 0) h); left = g ∙ sym (ap (drop 1) h) }

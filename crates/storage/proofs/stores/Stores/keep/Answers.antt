@@ -3,8 +3,8 @@ use Rattle.std.proofs.lemmas.Bool.{le-leb}
 use Rattle.storage.proofs.Blocks.{kept, short_set}
 use Rattle.storage.proofs.stores.Stores.keep.Goals as goal
 
-pub invariant-of-self : goal.invariant-of-self
-invariant-of-self c = (search rules, (short_set _ _ _ c.args.self.now.short (omega arith) (omega arith), (c.args.self.now.room, tt)))
+pub invariant_of-self : goal.invariant_of-self
+invariant_of-self c = (search rules, (short_set _ _ _ c.args.self.now.short (omega arith) (omega arith), (c.args.self.now.room, tt)))
 
 pub returns : goal.returns
 returns c = record {

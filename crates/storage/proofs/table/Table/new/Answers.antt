@@ -2,6 +2,6 @@ use Rattle.std.proofs.Common.{refl, rules}
 use Rattle.storage.specs.Rows.{all_sites}
 use Rattle.storage.proofs.table.Table.new.Goals as goal
 
-pub invariant-of-result : goal.invariant-of-result
+pub invariant_of-result : goal.invariant_of-result
 unfolding all_sites
-invariant-of-result c = (search rules, (search rules, (refl, tt)))
+invariant_of-result c = (search rules, (search rules, (refl, tt)))

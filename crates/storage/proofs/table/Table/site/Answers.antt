@@ -10,11 +10,11 @@ returns-then-place-self c = record {
   ok = tt;
 }
 
-found : (c : goal.After-as-slice) →
-    Some (c.as-slice.result.now, (get_or c.args.self.now.rows c.number-place.result c.index-self-place.result).port) ≡ nth c.args.number.number (table_of c.args.self.now)
+found : (c : goal.After-as_slice) →
+    Some (c.as_slice.result.now, (get_or c.args.self.now.rows c.number-place.result c.index-self-place.result).port) ≡ nth c.args.number.number (table_of c.args.self.now)
 found c =
     let t = c.args.self.now in
-    ap (λ h. Some (h, (get_or t.rows c.number-place.result c.index-self-place.result).port)) c.as-slice.ensures.is
+    ap (λ h. Some (h, (get_or t.rows c.number-place.result c.index-self-place.result).port)) c.as_slice.ensures.is
     ∙ sym (row_at row_of t.rows t.len (omega arith) c.number-place.result c.index-self-place.result c.if-place-self.false)
     ∙ ap (λ n. nth n (table_of t)) c.number-place.ensures.is
 

@@ -8,5 +8,5 @@ returns c =
     let q = c.args.self.now in
     record {
       word = queue_first word_of q.count q.words _ (omega arith) (omega arith);
-      others = ap (λ l. map word_of (take (q.count - 1) l)) c.rotate-left.ensures.after ∙ queue_rest word_of q.count q.words (omega arith) (omega arith);
+      others = ap (λ l. map word_of (take (q.count - 1) l)) c.rotate_left.ensures.after ∙ queue_rest word_of q.count q.words (omega arith) (omega arith);
     }

@@ -6,5 +6,5 @@ use Rattle.std.proofs.lemmas.Bool.Decides.{Decides-eqb}
 
 pub returns : goal.returns
 returns c =
-    let bytes = decides_by _ _ _ _ _ c.bytes-told.ensures c.bytes-told-2.ensures (slice_eq-Decides Decides-eqb _ _ _ c.eq.ensures) in
-    told_decides c.args.a c.args.b _ _ _ (c.if-not-same-kind.ensures.0 refl) bytes
+    let bytes = decides_by _ _ _ _ _ c.bytes_told.ensures c.bytes_told-2.ensures (slice_eq-Decides Decides-eqb _ _ _ c.eq.ensures) in
+    told_decides c.args.a c.args.b _ _ _ (c.if-not-same_kind.ensures.0 refl) bytes

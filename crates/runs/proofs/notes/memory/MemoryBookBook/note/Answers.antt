@@ -13,7 +13,7 @@ returns-then-len-self c =
     let x = c.args.self.now in
     let h : has_room x ≡ true = lt-ltb (vec_len x.records) x.room (omega arith) in
     record {
-      entries = ap (map entry_of) c.push-reserved.ensures.items ∙ map_push entry_of (vec_items x.records) c.args.noted.now ∙ sym (cond-true (has_room x) (entries_of x ++ (entry_of c.args.noted.now ∷ [])) (entries_of x) h);
+      entries = ap (map entry_of) c.push_reserved.ensures.items ∙ map_push entry_of (vec_items x.records) c.args.noted.now ∙ sym (cond-true (has_room x) (entries_of x ++ (entry_of c.args.noted.now ∷ [])) (entries_of x) h);
       missed = nothing-missed x.missed ∙ ap (λ z. x.missed || not z) (sym h);
       room = refl;
     }
