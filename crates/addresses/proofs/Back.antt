@@ -1,12 +1,11 @@
 -- A site that was written is read back. Assumes nothing.
-use Rattle.std.proofs.Common.{◌≡◌, ℕ, zero, suc, ◌+◌, ◌-◌, ◌*◌, ◌/◌, ◌%◌, ◌^◌, ◌<◌, ◌≤◌, Bool, true, false, cond, ◌&&◌, ◌||◌, eqb, ltb, leb, List, [], ◌∷◌, ◌++◌, length, get_or, take, drop, Some, None, codes, decimal, Option, sym, refl, ap, ◌∙◌, subst, inl, inr, ⊎_elim, append_assoc, append-nil, one-add, arith}
+use Rattle.std.proofs.Common.{◌≡◌, ℕ, zero, suc, ◌+◌, ◌-◌, ◌*◌, ◌<◌, ◌≤◌, true, eqb, ltb, leb, List, [], ◌∷◌, ◌++◌, length, get_or, Some, None, codes, decimal, Option, sym, refl, ap, ◌∙◌, subst, ⊎_elim, append_assoc, append-nil, arith}
 use Rattle.std.specs.List.{prefix_len}
-use Rattle.std.proofs.lemmas.Bool.{cond-true, cond-false, and_from, and_parts, le-leb, leb-true, eqb-true, eqb-false, ne_eqb, cases_Bool, or_left, cond_both, true≢false}
-use Rattle.std.proofs.lemmas.List.{take_at, drop_at, take_all, drop_all, take-append-drop, nil_from_length}
-use Rattle.std.proofs.lemmas.Fmt.{decimal_by_steps, first_decimal}
-use Rattle.std.proofs.lemmas.Bool.Decides.{nat_tests}
+use Rattle.std.proofs.lemmas.Bool.{cond-true, cond-false, and_parts, leb-true, eqb-true, eqb-false, ne_eqb, cases_Bool, or_left, cond_both, true≢false}
+use Rattle.std.proofs.lemmas.List.{take-append-drop, nil_from_length}
+use Rattle.std.proofs.lemmas.Fmt.{first_decimal}
 use Rattle.octets.specs.declared.Class.TheVariants.{Digit, Label, Name}
-use Rattle.octets.specs.Answers.{Answer, Read, Fault}
+use Rattle.octets.specs.Answers.{Read, Fault}
 use Rattle.octets.specs.Classes.{is_digit, has}
 use Rattle.octets.specs.Fronts.{and_then, after, front, past}
 use Rattle.octets.specs.Numbers.{number}

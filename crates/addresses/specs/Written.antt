@@ -1,5 +1,5 @@
 -- The written form of a site, and that it is read back. Assumes nothing.
-use Rattle.std.specs.Prelude.{◌≡◌, ℕ, ◌<◌, ◌≤◌, true, cond, List, [], ◌∷◌, ◌++◌, Some, codes, decimal, ◌==◌}
+use Rattle.std.specs.Prelude.{◌≡◌, ℕ, ◌<◌, ◌≤◌, true, cond, List, [], ◌++◌, Some, codes, decimal, ◌==◌}
 use Rattle.octets.specs.Answers.{Read}
 use Rattle.addresses.specs.Address.{labels, read_site, read_address}
 

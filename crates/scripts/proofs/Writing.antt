@@ -1,5 +1,5 @@
 -- Pages that are written can be read.
-use Rattle.std.proofs.Common.{◌≡◌, ℕ, zero, suc, ◌+◌, ◌-◌, ◌*◌, ◌<◌, ◌≤◌, true, false, ◌&&◌, ltb, leb, List, [], ◌∷◌, ◌++◌, length, get_or, take, drop, Some, None, Ok, Err, Option, Result, sym, refl, ap, ◌∙◌, append_assoc, append-nil, arith, le-ltb, le-leb}
+use Rattle.std.proofs.Common.{◌≡◌, ℕ, ◌+◌, ◌*◌, ◌<◌, ◌≤◌, true, false, ◌&&◌, ltb, leb, List, [], ◌∷◌, ◌++◌, length, get_or, take, drop, Some, Ok, sym, refl, ap, ◌∙◌, arith, le-ltb, le-leb}
 use borrow.Author.Tests.{lt-leb}
 use borrow.Rule.Slice.PartMut.{put_mid, post_of}
 use Rattle.std.proofs.lemmas.Bool.{cond-true, cond-false}
@@ -9,7 +9,6 @@ use Rattle.scripts.specs.declared.Step.{Step}
 use Rattle.scripts.specs.declared.Step.TheVariants.{Constant, Move, Sum, Product, Equal, Less, Jump, JumpIf, Load, Store, Wait}
 use Rattle.scripts.specs.declared.Call.{Call}
 use Rattle.scripts.specs.declared.Call.TheVariants.{Nothing, Ask, Say, Keep, Look, Open}
-use Rattle.scripts.specs.declared.Unreadable.{Unreadable}
 use Rattle.scripts.specs.Page.{step_in, steps_in, before, step_bytes, call_bytes, is_page, count_in, sized, head_in, body_in, page_in, head_of, page_of, written, written_size}
 
 -- a step is read from the bytes that are written of it

@@ -1,6 +1,10 @@
 // Steps and scripts are compared. Two steps are one where their bytes are, since a step's bytes are read as that step.
 ghost use Rattle.std.specs.Prelude.{◌≡◌, Decides};
 ghost use Rattle.scripts.specs.Scripts.{steps_of};
+ghost use Rattle.scripts.specs.Same.{parts_of};
+ghost use Rattle.std.specs.Ordering.{on};
+ghost use Rattle.std.specs.Bool.{nat_eq};
+ghost use Rattle.std.specs.Cmp.Lexicographic.{pointwise};
 ghost use Rattle.std.specs.Cmp.Rules.{comparing};
 ghost use Rattle.std.proofs.Common.{rules};
 
@@ -8,7 +12,7 @@ use crate::script::Script;
 use crate::{Step, encode};
 
 impl PartialEq for Step {
-    ghost equals = { λ x y r. Decides r (x ≡ y) };
+    ghost eq = { on parts_of (pointwise nat_eq) };
 
     ghost laws = { Prim.search (comparing, rules) };
 

@@ -1,21 +1,20 @@
 -- What is written of settings is read back. Assumes nothing.
-use Rattle.std.proofs.Common.{◌≡◌, ℕ, suc, ◌+◌, ◌^◌, ◌<◌, ◌≤◌, Bool, true, false, cond, not, ◌&&◌, ◌||◌, eqb, ltb, leb, List, [], ◌∷◌, ◌++◌, map, length, get_or, Some, None, codes, decimal, Option, sym, refl, ap, ◌∙◌, ⊎_elim, append_assoc, append-nil, arith, length-append}
+use Rattle.std.proofs.Common.{◌≡◌, ℕ, suc, ◌+◌, ◌<◌, ◌≤◌, Bool, true, false, cond, not, eqb, ltb, leb, List, [], ◌∷◌, ◌++◌, map, length, get_or, Some, None, codes, decimal, Option, sym, refl, ap, ◌∙◌, ⊎_elim, append_assoc, append-nil, arith, length-append}
 use Rattle.std.specs.List.{prefix_len}
 use Rattle.std.proofs.lemmas.List.{map-append, take_all}
 use Rattle.std.proofs.lemmas.Bool.{cond-true, cond-false, cond_both, cases_Bool, cases_eq, and_from, and_parts, eqb-true, ne_eqb, le-leb, lt-ltb, le-ltb, both_ways, not_from_false, or_left}
 use Rattle.std.proofs.lemmas.Fmt.{decimal_digit, decimal_nonempty, first_decimal}
 use Rattle.octets.specs.declared.Class.TheVariants.{Digit, Line, Name, Visible}
 use Rattle.octets.specs.Classes.{is_digit, has}
-use Rattle.octets.specs.Fronts.{and_then, after, front, past}
+use Rattle.octets.specs.Fronts.{and_then, after, front}
 use Rattle.octets.proofs.Fronts.{all_append, all-front, front-append, past-append}
 use Rattle.octets.proofs.Numbers.{number_digits, number-decimal}
-use Rattle.addresses.specs.Address.{path_ok}
 use Rattle.addresses.specs.Written.{port_text, site_text}
 use Rattle.addresses.proofs.Back.{host_names, address_back}
 use Rattle.settings.specs.declared.lines.TurnLine.{TurnLine}
 use Rattle.settings.specs.declared.lines.TurnLine.TheVariants.{Window, Rounds}
 use Rattle.settings.specs.Lines.{lines, unpadded, count, address_in, site_from, open_from, head_line, rounds_from, turn_from, turn_line}
-use Rattle.settings.specs.Settings.{Config, Outcome, Good, Bad, place, named, added, few, turn_then, turns_from, with_turns, head_then, lines_from, no_settings, read_settings}
+use Rattle.settings.specs.Settings.{Config, Good, Bad, place, named, added, few, turn_then, turns_from, with_turns, head_then, lines_from, no_settings, read_settings}
 use Rattle.settings.specs.Written.{site_line, open_text, open_line, turn_text, lines_of, ended, settings_text, SettingsReadBack}
 use Rattle.settings.proofs.Places.{nth-within}
 use Rattle.settings.proofs.Cuts.{lines-append}

@@ -1,10 +1,8 @@
 -- Lines that name sites, one after another. Assumes nothing.
-use Rattle.std.proofs.Common.{◌≡◌, ℕ, ◌+◌, ◌<◌, Bool, true, false, cond, List, [], ◌∷◌, length, Some, None, Option, sym, refl, ap, ◌∙◌, arith}
+use Rattle.std.proofs.Common.{◌≡◌, ℕ, ◌+◌, Bool, true, false, cond, List, [], ◌∷◌, Some, None, sym, ap, ◌∙◌, arith}
 use Rattle.std.proofs.lemmas.Bool.{cond-true, cond-false}
-use Rattle.octets.specs.Fronts.{and_then}
-use Rattle.settings.specs.declared.lines.TurnLine.{TurnLine}
-use Rattle.settings.specs.Lines.{lines, head_line, turn_line, next_by}
-use Rattle.settings.specs.Settings.{Config, Outcome, Good, Bad, added, few, turns_from, with_turns, head_then, lines_from}
+use Rattle.settings.specs.Lines.{lines, head_line, next_by}
+use Rattle.settings.specs.Settings.{Config, Good, Bad, added, few, turns_from, with_turns, head_then, lines_from}
 use Rattle.settings.proofs.Cuts.{next-some, next-none}
 
 -- a line that names a site: h is what it says, and t what follows it

@@ -1,10 +1,9 @@
 -- Lines of turns, one after another. Assumes nothing.
 use Rattle.std.proofs.Common.{◌≡◌, ℕ, ◌+◌, ◌<◌, List, [], ◌∷◌, length, Some, None, Option, sym, refl, ap, ◌∙◌, arith}
 use Rattle.std.proofs.lemmas.List.{nil_from_length}
-use Rattle.octets.specs.Fronts.{and_then}
 use Rattle.settings.specs.declared.lines.TurnLine.{TurnLine}
 use Rattle.settings.specs.Lines.{lines, turn_line, next_by}
-use Rattle.settings.specs.Settings.{Outcome, Good, Bad, turn_then, turns_from, turn_and, turns_of}
+use Rattle.settings.specs.Settings.{Good, Bad, turn_then, turns_from, turn_and, turns_of}
 use Rattle.settings.proofs.Cuts.{next-some, next-none}
 
 -- what the lines ls from line k on give is given by the lines ms from line j on too

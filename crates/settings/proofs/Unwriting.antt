@@ -1,5 +1,5 @@
 -- What is left to write, line by line. Assumes nothing.
-use Rattle.std.proofs.Common.{◌≡◌, ℕ, zero, suc, ◌+◌, ◌-◌, ◌<◌, ◌≤◌, leb, List, [], ◌∷◌, ◌++◌, map, length, drop, Some, None, Option, sym, refl, ap, ◌∙◌, ⊎_elim, append_assoc, add-one, arith, length-append}
+use Rattle.std.proofs.Common.{◌≡◌, ℕ, zero, suc, ◌+◌, ◌-◌, ◌<◌, ◌≤◌, leb, List, [], ◌∷◌, ◌++◌, map, length, drop, Some, None, sym, refl, ap, ◌∙◌, ⊎_elim, append_assoc, add-one, arith, length-append}
 use Rattle.std.specs.Option.{option_map}
 use Rattle.std.specs.List.{slice_get}
 use Rattle.std.proofs.lemmas.List.{drop_all, length-map}
@@ -8,7 +8,7 @@ use Rattle.octets.specs.Buffers.{room_after, over, written_from, count_from}
 use Rattle.octets.proofs.Options.{none-some, some_same, cond-some}
 use Rattle.octets.proofs.Puts.{room-more, room-none, over-over}
 use Rattle.settings.specs.declared.lines.TurnLine.{TurnLine}
-use Rattle.settings.specs.Written.{site_line, open_text, open_line, turn_text, ended}
+use Rattle.settings.specs.Written.{site_line, open_line, turn_text, ended}
 use Rattle.settings.specs.Unwritten.{left_from}
 use Rattle.settings.proofs.Places.{drop_nth, nth-none}
 

@@ -1,5 +1,5 @@
 -- What a table holds. Assumes nothing.
-use Rattle.std.specs.Prelude.{◌≡◌, ℕ, ◌≤◌, List, length, take}
+use Rattle.std.specs.Prelude.{◌≡◌, ◌≤◌, List, length, take}
 use Rattle.settings.specs.declared.table.Table.{Table}
 
 -- its values, by their numbers

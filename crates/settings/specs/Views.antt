@@ -5,7 +5,6 @@ use Rattle.addresses.specs.Views.{site_of}
 use Rattle.settings.specs.declared.table.Table.{Table}
 use Rattle.settings.specs.declared.lines.TurnLine.{TurnLine}
 use Rattle.settings.specs.declared.Open.{Open}
-use Rattle.settings.specs.declared.Turns.{Turns}
 use Rattle.settings.specs.declared.Settings.{Settings}
 use Rattle.settings.specs.declared.Fault.{Fault}
 use Rattle.settings.specs.declared.Fault.TheVariants.{Unreadable, TooMany}

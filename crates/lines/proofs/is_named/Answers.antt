@@ -2,8 +2,8 @@ use Rattle.std.proofs.Common.{sym, ◌∙◌}
 use Rattle.lines.proofs.Named.{named_end, named_turn, named_more}
 use Rattle.lines.proofs.is_named.Goals as goal
 
-pub returns-in-default : goal.returns-in-default
-returns-in-default c = sym (c.loop-i.invariant ∙ named_turn _ _ _ _ _ c.loop-i-test.true c.in-default.ensures)
+pub returns-in_default : goal.returns-in_default
+returns-in_default c = sym (c.loop-i.invariant ∙ named_turn _ _ _ _ _ c.loop-i-test.true c.in_default.ensures)
 
 pub returns-then-same_name : goal.returns-then-same_name
 returns-then-same_name c = sym (c.loop-i.invariant ∙ named_more _ _ _ _ _ _ _ _ c.loop-i-test.true c.in-Some.ensures c.split.ensures.front c.if-same_name.ensures)

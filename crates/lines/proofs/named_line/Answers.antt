@@ -14,11 +14,11 @@ size s rest n m p q r =
     let tail : m ≡ prefix_len (has Text) (drop (prefix_len (has Token) s) s) = r ∙ ap (prefix_len (has Text)) (q ∙ ap (λ k. drop k s) p) in
     (λ i. p i + tail i) ∙ sym (front_then (has Token) (has Text) token_text s)
 
-pub returns-in-default : goal.returns-in-default
-returns-in-default c =
+pub returns-in_default : goal.returns-in_default
+returns-in_default c =
     let s = c.args.s.now in
     let long = size s c.split_at.result.1.now c.span-n.result c.span-m.result c.span-n.ensures.is c.split_at.ensures.back c.span-m.ensures.is in
-    record { is = ap (λ o. and_then o (λ t. Some (take (prefix_len (has Text) s) s, t))) (c.in-default.ensures ∙ ap (after crlf) (c.split_at-2.ensures.back ∙ ap (λ k. drop k s) long)); name = tt }
+    record { is = ap (λ o. and_then o (λ t. Some (take (prefix_len (has Text) s) s, t))) (c.in_default.ensures ∙ ap (after crlf) (c.split_at-2.ensures.back ∙ ap (λ k. drop k s) long)); name = tt }
 
 pub returns : goal.returns
 returns c =

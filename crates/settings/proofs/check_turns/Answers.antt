@@ -28,10 +28,10 @@ loop-next-preserved c = (
 
 pub returns-then-is_empty : goal.returns-then-is_empty
 returns-then-is_empty c =
-    sym (turns_good (c.args.before + 1) (c.loop-next.line + 1) (lines c.args.text.now) c.loop-next.rest.now (sym c.in-default.ensures) c.loop-next.invariant.0
+    sym (turns_good (c.args.before + 1) (c.loop-next.line + 1) (lines c.args.text.now) c.loop-next.rest.now (sym c.in_default.ensures) c.loop-next.invariant.0
     (eqb-true (length c.loop-next.rest.now) 0 (sym c.if-is_empty.ensures)))
 
 pub returns : goal.returns
 returns c =
-    sym (turns_bad (c.args.before + 1) (c.loop-next.line + 1) (lines c.args.text.now) c.loop-next.rest.now (sym c.in-default.ensures) c.loop-next.invariant.0
+    sym (turns_bad (c.args.before + 1) (c.loop-next.line + 1) (lines c.args.text.now) c.loop-next.rest.now (sym c.in_default.ensures) c.loop-next.invariant.0
     (some c.loop-next.rest.now (sym c.if-is_empty.ensures)))

@@ -1,4 +1,4 @@
-use Rattle.std.proofs.Common.{◌≡◌, ℕ, ◌+◌, ◌≤◌, length}
+use Rattle.std.proofs.Common.{◌+◌, ◌≤◌, length}
 use Rattle.settings.specs.Lines.{lines}
 use Rattle.settings.proofs.Turning.{GoesOn}
 use Rattle.settings.proofs.check_turns.Given as goal

@@ -1,10 +1,10 @@
-use Rattle.std.proofs.Common.{◌≡◌, ◌≤◌, true, ltb, leb, [], ◌∷◌, ◌++◌, map, length, Some, sym, ap, ◌∙◌, arith}
+use Rattle.std.proofs.Common.{◌≤◌, map, length, Some, sym, ap, ◌∙◌, arith}
 use Rattle.std.proofs.lemmas.List.{length-take, length-map}
 use Rattle.std.proofs.lemmas.Bool.{cond-true}
 use Rattle.addresses.specs.Views.{site_of}
 use Rattle.settings.specs.Tables.{items_of}
 use Rattle.settings.specs.Views.{sites_in}
-use Rattle.settings.proofs.Places.{named_old, named_new, pushed_number, pushed_sites}
+use Rattle.settings.proofs.Places.{named_old, pushed_number, pushed_sites}
 use Rattle.settings.proofs.name_site.Goals as goal
 
 pub returns-in-Some : goal.returns-in-Some
@@ -17,7 +17,7 @@ returns-in-Some c =
 pub returns : goal.returns
 returns c =
     let t = c.args.sites.now in
-    let new = c.in-default.ensures in
+    let new = c.in_default.ensures in
     record {
       is = c.push.ensures.is ∙ pushed_number site_of c.args.site (items_of t) new;
       left = ap (map site_of) c.push.ensures.left ∙ pushed_sites site_of c.args.site (items_of t) new;

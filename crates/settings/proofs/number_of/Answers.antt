@@ -23,4 +23,4 @@ loop-other-preserved c =
     (place-next site_of (site_of c.args.site) (items_of c.args.sites.now) c.loop-other.n c.loop-other.invariant.0 c.in-Some.other c.in-Some.ensures.is (sym (same_is _ _ _ c.if-same_site.ensures)), more c)
 
 pub returns : goal.returns
-returns c = number-none site_of (site_of c.args.site) (items_of c.args.sites.now) c.loop-other.n c.loop-other.invariant.0 c.in-default.ensures.is
+returns c = number-none site_of (site_of c.args.site) (items_of c.args.sites.now) c.loop-other.n c.loop-other.invariant.0 c.in_default.ensures.is

@@ -1,4 +1,4 @@
-use Rattle.std.proofs.Common.{◌≡◌, ◌+◌, ◌-◌, ◌≤◌, length, drop}
+use Rattle.std.proofs.Common.{◌≡◌, ◌+◌, ◌-◌, ◌≤◌, drop}
 use Rattle.addresses.specs.Views.{site_of}
 use Rattle.settings.specs.Settings.{place}
 use Rattle.settings.specs.Views.{sites_in}

@@ -1,4 +1,4 @@
-use Rattle.std.proofs.Common.{◌≡◌, ◌+◌, ◌<◌, length, sym, ap, ◌∙◌, arith}
+use Rattle.std.proofs.Common.{◌+◌, ◌<◌, length, sym, ap, ◌∙◌, arith}
 use Rattle.std.proofs.lemmas.Result.{err_from_is_err_and}
 use Rattle.settings.specs.Heads.{head_of}
 use Rattle.settings.specs.Lines.{lines, head_line}
@@ -29,15 +29,15 @@ loop-head-preserved c =
       c.add.ensures.sound,
     )
 
-pub returns-in-err-check_turns : goal.returns-in-err-check_turns
-returns-in-err-check_turns c =
-    let p = err_from_is_err_and c.from-residual.result c.from-residual.ensures.1 in
+pub returns-in_err-check_turns : goal.returns-in_err-check_turns
+returns-in_err-check_turns c =
+    let p = err_from_is_err_and c.from_residual.result c.from_residual.ensures.1 in
     let d = settings_of c.loop-head.settings in
     ap outcome_of p.1
     ∙ ap (λ e. Bad (fault_number e.fault) e.line) p.2
-    ∙ sym (c.loop-head.invariant.0 ∙ turns-begin d (c.loop-head.line + 1) c.loop-head.rest.now c.loop-head.invariant.1 (sym c.in-default.ensures) ∙ sym (ap (with_turns d) c.in-err-check_turns.ensures))
+    ∙ sym (c.loop-head.invariant.0 ∙ turns-begin d (c.loop-head.line + 1) c.loop-head.rest.now c.loop-head.invariant.1 (sym c.in_default.ensures) ∙ sym (ap (with_turns d) c.in_err-check_turns.ensures))
 
 pub returns : goal.returns
 returns c =
     let d = settings_of c.loop-head.settings in
-    sym (c.loop-head.invariant.0 ∙ turns-begin d (c.loop-head.line + 1) c.loop-head.rest.now c.loop-head.invariant.1 (sym c.in-default.ensures) ∙ sym (ap (with_turns d) c.in-ok-check_turns.ensures))
+    sym (c.loop-head.invariant.0 ∙ turns-begin d (c.loop-head.line + 1) c.loop-head.rest.now c.loop-head.invariant.1 (sym c.in_default.ensures) ∙ sym (ap (with_turns d) c.in_ok-check_turns.ensures))

@@ -4,14 +4,14 @@ use Rattle.assembler.specs.Texts.{lines, found_or, label_from}
 use Rattle.assembler.proofs.Cuts.{cut_more, no_lines}
 use Rattle.assembler.proofs.labels.find_label.Goals as goal
 
-pub returns-in-default : goal.returns-in-default
-returns-in-default c =
+pub returns-in_default : goal.returns-in_default
+returns-in_default c =
     let name = c.args.name.now in
     let k = c.loop-rest.line in
     let at = c.loop-rest.at in
     let h = cut_more c.loop-rest.rest.now _ _ (sym c.loop-rest-test.ensures) c.cut.ensures.line c.cut.ensures.rest in
     record {
-      is = sym (c.loop-rest.invariant.0 ∙ ap (label_from name k at) h.0 ∙ sym (ap (λ o. found_or o k at (λ next. label_from name (k + 1) next (lines c.cut.result.1.now))) c.in-default.ensures.is));
+      is = sym (c.loop-rest.invariant.0 ∙ ap (label_from name k at) h.0 ∙ sym (ap (λ o. found_or o k at (λ next. label_from name (k + 1) next (lines c.cut.result.1.now))) c.in_default.ensures.is));
       within = c.loop-rest.invariant.2;
     }
 

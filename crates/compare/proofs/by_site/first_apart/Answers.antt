@@ -4,7 +4,7 @@ use Rattle.std.proofs.lemmas.Bool.{eqb-false, ne_eqb}
 use Rattle.bounded.specs.Numbers.{number_of}
 use Rattle.compare.proofs.Sites.{so_far_none, so_far_more, so_far_all, so_far_apart, site_is, site_there}
 use Rattle.compare.proofs.by_site.first_apart.Goals as goal
-use Rattle.compare.proofs.by_site.first_apart.Goals.{in-Some+else-not-same_at, else-not-same_at-via-then-not-same_at+else-not-same, else-not-same_at-via-else-not-same_at, in-default}
+use Rattle.compare.proofs.by_site.first_apart.Goals.{in-Some+else-not-same_at, else-not-same_at-via-then-not-same_at+else-not-same, else-not-same_at-via-else-not-same_at, in_default}
 
 pub loop-n-init : goal.loop-n-init
 loop-n-init g c = so_far_none _ _ _
@@ -23,7 +23,7 @@ loop-n-preserved g c = elim c.match-new.branch [
         | else-not-same_at-via-then-not-same_at+else-not-same w' ↦ more (λ o. absurd (eqb-false (number_of w.in-Some.site) (number_of c.args.but) o (w'.if-not-same.ensures.0 refl)))
         | else-not-same_at-via-else-not-same_at w' ↦ more (λ o. w'.if-not-same_at.ensures.value.0 refl)
       ]
-  | in-default w ↦ absurd (site_there c.loop-n.n c.loop-n-test.true w.in-default.ensures)
+  | in_default w ↦ absurd (site_there c.loop-n.n c.loop-n-test.true w.in_default.ensures)
 ]
 
 pub returns : goal.returns

@@ -4,8 +4,8 @@ use Rattle.compare.specs.Whose.{counted}
 use Rattle.compare.proofs.Picked.{keep_none, keep_it, leave_it}
 use Rattle.compare.proofs.let_out.pick.Goals as goal
 
-pub returns-in-default : goal.returns-in-default
-returns-in-default c = keep_none _ c.args.out.now c.in-default.is
+pub returns-in_default : goal.returns-in_default
+returns-in_default c = keep_none _ c.args.out.now c.in_default.is
 
 pub returns-then-counts : goal.returns-then-counts
 returns-then-counts c = keep_it (counted c.args.whose (only (number_of c.args.but))) c.args.out.now c.in-Some.out c.in-Some.is c.if-counts.ensures

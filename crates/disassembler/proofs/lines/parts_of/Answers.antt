@@ -4,11 +4,11 @@ use Rattle.script_lines.specs.Forms.{form_of}
 use Rattle.disassembler.specs.Lines.{by_form, line_then, fits, plain_then}
 use Rattle.disassembler.proofs.lines.parts_of.Goals as goal
 
-pub returns-in-default : goal.returns-in-default
+pub returns-in_default : goal.returns-in_default
 unfolding line_then
-returns-in-default c =
+returns-in_default c =
     c.raw.ensures
-    ∙ sym (ap (λ o. by_form o c.args.row (10 ∷ [])) (sym (ap form_of c.name_of-word.ensures) ∙ sym c.in-default.ensures))
+    ∙ sym (ap (λ o. by_form o c.args.row (10 ∷ [])) (sym (ap form_of c.name_of-word.ensures) ∙ sym c.in_default.ensures))
 
 pub returns-then-fits : goal.returns-then-fits
 unfolding line_then

@@ -3,10 +3,10 @@ use Rattle.disassembler.proofs.Sizes.{line_short}
 use Rattle.disassembler.proofs.Rows.{rows_more, rows_none, rows_room}
 use Rattle.disassembler.proofs.text.put_rows.Goals as goal
 
-pub returns-in-default : goal.returns-in-default
-returns-in-default c =
+pub returns-in_default : goal.returns-in_default
+returns-in_default c =
     let short = line_short c.row_in.result (record { kind = omega arith; a = omega arith; b = omega arith; c = omega arith; number = omega arith }) in
-    rows_room c.loop-i.at c.row_in.result c.loop-i.out _ c.parts_of.ensures (omega (arith, short, c.loop-i.invariant.1)) c.in-default.ensures.answer
+    rows_room c.loop-i.at c.row_in.result c.loop-i.out _ c.parts_of.ensures (omega (arith, short, c.loop-i.invariant.1)) c.in_default.ensures.answer
 
 pub loop-i-preserved : goal.loop-i-preserved
 loop-i-preserved c =

@@ -8,8 +8,8 @@ use Rattle.lines.proofs.heads.read_fields.Goals as goal
 pub loop-k-init : goal.loop-k-init
 loop-k-init g c = (start _ _ _, named_none c.args.s.now, λ x _. none_named c.args.s.now x, refl)
 
-pub returns-in-default : goal.returns-in-default
-returns-in-default g c = record { is = sym (c.loop-k.invariant.0 ∙ head_turn _ _ _ _ _ _ _ c.loop-k-test.true c.in-default.ensures.is); enough = enough }
+pub returns-in_default : goal.returns-in_default
+returns-in_default g c = record { is = sym (c.loop-k.invariant.0 ∙ head_turn _ _ _ _ _ _ _ c.loop-k-test.true c.in_default.ensures.is); enough = enough }
 
 pub returns-then-is_empty : goal.returns-then-is_empty
 returns-then-is_empty g c = record { is = sym (c.loop-k.invariant.0 ∙ head_done _ _ _ _ _ _ _ _ c.loop-k-test.true c.in-Some.ensures.is c.if-is_empty.ensures); enough = enough }
@@ -27,8 +27,8 @@ loop-k-preserved g c =
       length-set _ _ _ ∙ i.3,
     )
 
-pub returns-in-default-field_of : goal.returns-in-default-field_of
-returns-in-default-field_of g c = record { is = sym (c.loop-k.invariant.0 ∙ head_field _ _ _ _ _ _ _ _ _ c.loop-k-test.true c.in-Some.ensures.is c.if-is_empty.ensures c.in-default-field_of.ensures); enough = enough }
+pub returns-in_default-field_of : goal.returns-in_default-field_of
+returns-in_default-field_of g c = record { is = sym (c.loop-k.invariant.0 ∙ head_field _ _ _ _ _ _ _ _ _ c.loop-k-test.true c.in-Some.ensures.is c.if-is_empty.ensures c.in_default-field_of.ensures); enough = enough }
 
 pub returns-in-Err : goal.returns-in-Err
 returns-in-Err g c = record { is = sym (c.loop-k.invariant.0 ∙ head_more _ _ _ _ _ _ _ _ _ _ _ c.loop-k-test.true c.in-Some.ensures.is c.if-is_empty.ensures c.in-Some-field_of.ensures c.in-Err.ensures); enough = enough }

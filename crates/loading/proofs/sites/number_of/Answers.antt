@@ -54,4 +54,4 @@ loop-known-preserved c =
 
 pub returns : goal.returns
 unfolding rows
-returns c = number-none row_of (site_of c.args.site) (rows c.args.table.now) c.loop-known.n c.loop-known.invariant.0 (nothing_behind row_of (rows c.args.table.now) c.loop-known.n c.in-default.ensures)
+returns c = number-none row_of (site_of c.args.site) (rows c.args.table.now) c.loop-known.n c.loop-known.invariant.0 (nothing_behind row_of (rows c.args.table.now) c.loop-known.n c.in_default.ensures)

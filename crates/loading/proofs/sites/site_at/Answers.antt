@@ -3,5 +3,5 @@ use Rattle.std.proofs.Common.{arith}
 use Rattle.storage.specs.Tables.{table_of}
 use Rattle.loading.proofs.sites.site_at.Goals as goal
 
-pub returns-in-default : goal.returns-in-default
-returns-in-default c = none-past (table_of c.args.table.now) c.args.n (omega (arith, past_16 c.args.n c.in-default.ensures, few c.args.table.now))
+pub returns-in_default : goal.returns-in_default
+returns-in_default c = none-past (table_of c.args.table.now) c.args.n (omega (arith, past_16 c.args.n c.in_default.ensures, few c.args.table.now))

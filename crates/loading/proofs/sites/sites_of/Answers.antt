@@ -5,8 +5,8 @@ use Rattle.storage.specs.Tables.{table_of}
 use Rattle.loading.proofs.Places.{some-before, take_next}
 use Rattle.loading.proofs.sites.sites_of.Goals as goal
 
-pub returns-in-default : goal.returns-in-default
-returns-in-default c = absurd (some-before (table_of c.args.table.now) c.loop-n.n (omega (arith, c.len-n-end.ensures.is)) c.in-default.ensures)
+pub returns-in_default : goal.returns-in_default
+returns-in_default c = absurd (some-before (table_of c.args.table.now) c.loop-n.n (omega (arith, c.len-n-end.ensures.is)) c.in_default.ensures)
 
 pub loop-n-preserved : goal.loop-n-preserved
 loop-n-preserved c =

@@ -8,6 +8,6 @@ steps-preserved c = sym (first _ _ _ _ _ (omega arith) c.in-On.ensures) ∙ c.st
 pub returns-then-left-eq0 : goal.returns-then-left-eq0
 returns-then-left-eq0 c = none_left _ _ _ _ (omega arith) ∙ c.steps.invariant
 
-pub returns-in-default : goal.returns-in-default
-returns-in-default c =
-    stopped _ _ _ c.in-default.not-On ∙ sym (first _ _ _ _ _ (omega arith) c.step.ensures) ∙ c.steps.invariant
+pub returns-in_default : goal.returns-in_default
+returns-in_default c =
+    stopped _ _ _ c.in_default.not-On ∙ sym (first _ _ _ _ _ (omega arith) c.step.ensures) ∙ c.steps.invariant

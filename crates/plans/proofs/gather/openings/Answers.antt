@@ -14,9 +14,9 @@ use Rattle.plans.specs.Fits.{AllOpenings, opening_ok, fitting}
 use Rattle.plans.proofs.Gathering.{each_at, take_next}
 use Rattle.plans.proofs.gather.openings.Goals as goal
 
-pub returns-in-default : goal.returns-in-default
-returns-in-default c = λ h.
-    let l : length (items_of c.args.opens.now) ≤ c.loop-i.i = nth-none (items_of c.args.opens.now) c.loop-i.i c.in-default.ensures.is in
+pub returns-in_default : goal.returns-in_default
+returns-in_default c = λ h.
+    let l : length (items_of c.args.opens.now) ≤ c.loop-i.i = nth-none (items_of c.args.opens.now) c.loop-i.i c.in_default.ensures.is in
     let m = length-map (items_of c.args.opens.now) open_of in
     c.loop-i.invariant.2 h ∙ take_all c.loop-i.i (opens_in c.args.opens.now) (omega arith)
 
@@ -24,11 +24,11 @@ returns-in-default c = λ h.
 fits : (o : Open) (r : Option (ℕ × Bytes)) → r ≡ fitting (open_of o) → opening_ok (open_of o) ≡ true → r ≡ Some (open_of o)
 fits o r e k = e ∙ cond-true (opening_ok (open_of o)) (Some (open_of o)) None k
 
-pub returns-in-default-opening : goal.returns-in-default-opening
-returns-in-default-opening c = λ h.
+pub returns-in_default-opening : goal.returns-in_default-opening
+returns-in_default-opening c = λ h.
     let o : Open = c.in-Some.open in
     let e : slice_get (items_of c.args.opens.now) c.loop-i.i ≡ Some o = sym c.in-Some.ensures.is in
-    absurd (none-some (open_of o) (fits o _ c.in-default-opening.ensures (each_at opening_ok open_of (items_of c.args.opens.now) c.loop-i.i o h.1 e)))
+    absurd (none-some (open_of o) (fits o _ c.in_default-opening.ensures (each_at opening_ok open_of (items_of c.args.opens.now) c.loop-i.i o h.1 e)))
 
 pub loop-i-preserved : goal.loop-i-preserved
 loop-i-preserved c =

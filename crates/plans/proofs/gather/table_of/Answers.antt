@@ -12,9 +12,9 @@ use Rattle.plans.specs.Fits.{AllSites, is_site}
 use Rattle.plans.proofs.Gathering.{each_at, take_next, sites-more}
 use Rattle.plans.proofs.gather.table_of.Goals as goal
 
-pub returns-in-default : goal.returns-in-default
-returns-in-default c = λ h.
-    let l : length (items_of c.args.sites.now) ≤ c.loop-i.i = nth-none (items_of c.args.sites.now) c.loop-i.i c.in-default.ensures.is in
+pub returns-in_default : goal.returns-in_default
+returns-in_default c = λ h.
+    let l : length (items_of c.args.sites.now) ≤ c.loop-i.i = nth-none (items_of c.args.sites.now) c.loop-i.i c.in_default.ensures.is in
     let m = length-map (items_of c.args.sites.now) site_of in
     c.loop-i.invariant h ∙ take_all c.loop-i.i (sites_in c.args.sites.now) (omega arith)
 

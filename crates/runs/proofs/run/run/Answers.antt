@@ -23,8 +23,8 @@ counted b ws e = sym (length-map ws window_of) ∙ ap length e
 pub loop-browser-init : goal.loop-browser-init
 loop-browser-init g c = (refl, ([], reached_none _ _))
 
-pub returns-in-default : goal.returns-in-default
-returns-in-default g c =
+pub returns-in_default : goal.returns-in_default
+returns-in_default g c =
     let b : Part State = part_of c.loop-browser.browser in
     let a : Agenda = agenda_of c.loop-browser.agenda in
     let n = counted b c.windows.result.now c.windows.ensures.is in
@@ -32,7 +32,7 @@ returns-in-default g c =
       entries = c.loop-browser.invariant.1.0;
       left = a;
       went = c.loop-browser.invariant.1.1;
-      over = inl (ap {B = Option Due} (λ z. due z a) (sym n) ∙ none-due (due (length c.windows.result.now) a) c.in-default.ensures.event);
+      over = inl (ap {B = Option Due} (λ z. due z a) (sym n) ∙ none-due (due (length c.windows.result.now) a) c.in_default.ensures.event);
     }
 
 pub loop-browser-smaller : goal.loop-browser-smaller

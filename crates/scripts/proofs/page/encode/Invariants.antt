@@ -1,4 +1,4 @@
-use Rattle.std.proofs.Common.{◌≡◌, ◌*◌, length, take}
+use Rattle.std.proofs.Common.{◌≡◌, ◌*◌, take}
 use Rattle.std.specs.List.{flat_map, AllByRecursion as All}
 use Rattle.scripts.specs.Page.{step_bytes}
 use Rattle.scripts.proofs.Writing.{ReadBack}

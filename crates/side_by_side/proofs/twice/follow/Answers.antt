@@ -139,7 +139,7 @@ pub returns : goal.returns
 returns g c =
     let i = c.loop-due.invariant in
     let a : Agenda = agenda_of c.loop-due.agenda in
-    let over : due (length c.windows.result.now) a ≡ None = none-due (due (length c.windows.result.now) a) c.in-default.ensures.event in (
+    let over : due (length c.windows.result.now) a ≡ None = none-due (due (length c.windows.result.now) a) c.in_default.ensures.event in (
       i.4.0,
       i.4.1,
       till g c.args.site (length c.args.answer.now) c.args.agenda c.args.one c.args.two c.args.first c.args.second c.requires.alike i.4.0 _ _ i.4.2,

@@ -38,15 +38,15 @@ loop-b-preserved g c =
     )
 
 -- there is room for what was read
-pub returns-in-default-new : goal.returns-in-default-new
-returns-in-default-new g c =
+pub returns-in_default-new : goal.returns-in_default-new
+returns-in_default-new g c =
     let part = take (c.loop-b.len - 0) c.loop-b.bytes in
     let short : length part ≤ g.row.N = omega (arith, length-take (c.loop-b.len - 0) c.loop-b.bytes, c.loop-b.invariant.1) in
-    absurd (at_most-none g.row.N part short c.in-default-new.ensures)
+    absurd (at_most-none g.row.N part short c.in_default-new.ensures)
 
 pub returns : goal.returns
 returns g c =
     let front = take c.loop-b.len c.loop-b.bytes in
     let short : length front ≤ g.row.N = omega (arith, length-take c.loop-b.len c.loop-b.bytes, c.loop-b.invariant.1) in
     let text : text_of c.in-Some-new.text ≡ front = at_most-some g.row.N (take (c.loop-b.len - 0) c.loop-b.bytes) _ c.in-Some-new.ensures ∙ ap (λ n. take n c.loop-b.bytes) (sub-zero c.loop-b.len) in
-    ap (λ l. Some (l, c.loop-b.rest.now)) text ∙ sym (hex_stops g.row.N c.args.s.now c.loop-b.rest.now front c.loop-b.invariant.0 c.in-default.ensures short)
+    ap (λ l. Some (l, c.loop-b.rest.now)) text ∙ sym (hex_stops g.row.N c.args.s.now c.loop-b.rest.now front c.loop-b.invariant.0 c.in_default.ensures short)

@@ -9,11 +9,11 @@ use Rattle.words.proofs.Hexes.{length_hex, too_long, all-bytes}
 use Rattle.words.proofs.hex.put_bytes.Goals as goal
 use Rattle.words.proofs.hex.put_bytes.Goals.{then-word-room-via-then-word-room, then-word-room-via-else-word-room+then-bytes-room}
 
-pub returns-in-default : goal.returns-in-default
-returns-in-default c =
+pub returns-in_default : goal.returns-in_default
+returns-in_default c =
     let w = c.args.word.now in
     let bs = c.args.bytes.now in
-    let no = too_long c.args.from (w ++ hex_of bs) c.args.out.now (omega (arith, c.in-default.ensures)) in
+    let no = too_long c.args.from (w ++ hex_of bs) c.args.out.now (omega (arith, c.in_default.ensures)) in
     record { answer = no.0; after = no.1; bytes = all-bytes bs c.type-inv.bytes }
 
 pub returns-then-word-room : goal.returns-then-word-room

@@ -3,4 +3,4 @@ use lib.ListN.{length-replicate}
 use Rattle.bounded.proofs.text.Text.empty.Goals as goal
 
 pub invariant_of-result : goal.invariant_of-result
-invariant_of-result g c = (omega arith, (length-replicate g.row.N 0, tt))
+invariant_of-result g c = record { fits = omega arith; full = length-replicate g.row.N 0 }

@@ -1,4 +1,4 @@
-use Rattle.std.proofs.Common.{◌≡◌, ◌+◌, ◌<◌, ◌≤◌, ◌++◌, length, drop, decimal}
+use Rattle.std.proofs.Common.{◌≡◌, ◌<◌, ◌≤◌, ◌++◌, length, drop, decimal}
 use Rattle.octets.proofs.small.SmallText.digits.Given as goal
 
 abbrev pub invariant-loop-m : goal.invariant-loop-m

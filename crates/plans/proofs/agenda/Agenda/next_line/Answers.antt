@@ -59,7 +59,7 @@ loop-line-preserved c =
 pub returns : goal.returns
 returns c =
     let x : Here = c.take_line.new.self in
-    let t = c.in-default.ensures in
+    let t = c.in_default.ensures in
     let i = c.loop-line.invariant in
     let e : ◌≡◌ {A = Option Due} (line_due c.args.windows (lines_of c.args.self.now)) None =
     sym i.0 ∙ ap {B = Option Due} (line_due c.args.windows) t.line.0 ∙ none-due c.args.windows [] in

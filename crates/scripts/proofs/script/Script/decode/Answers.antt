@@ -1,12 +1,12 @@
-use Rattle.std.proofs.Common.{◌≡◌, ℕ, ◌<◌, length, take, Ok, sym, ap, ◌∙◌, arith, length-set, rules}
+use Rattle.std.proofs.Common.{◌≡◌, ◌<◌, length, take, Ok, sym, ap, ◌∙◌, arith, length-set}
 use Rattle.std.proofs.lemmas.List.{take_more_set}
 use Rattle.scripts.specs.Page.{step_in}
 use Rattle.scripts.proofs.Reading.{onto_all, onto_more, onto_unknown}
 use Rattle.scripts.proofs.script.Script.decode.Goals as goal
 
-pub returns-in-default : goal.returns-in-default
-returns-in-default c =
-    sym (onto_unknown _ _ _ (omega arith) (c.in-default.ensures ∙ ap step_in c.split_at.ensures.front)) ∙ c.loop-i.invariant.0
+pub returns-in_default : goal.returns-in_default
+returns-in_default c =
+    sym (onto_unknown _ _ _ (omega arith) (c.in_default.ensures ∙ ap step_in c.split_at.ensures.front)) ∙ c.loop-i.invariant.0
 
 pub loop-i-preserved : goal.loop-i-preserved
 loop-i-preserved c =

@@ -5,8 +5,8 @@ use Rattle.storage.proofs.Adding.{room, all_grown, grown_is, numbered_is}
 use Rattle.storage.proofs.table.Table.add.Goals as goal
 
 -- a site's host always fits a row
-pub returns-in-default-new : goal.returns-in-default-new
-returns-in-default-new c = absurd (none-some c.args.site.host.now (c.in-default-new.ensures ∙ site-fits c.args.site.host.now c.args.site.port (sym c.is_site_lem.ensures ∙ c.if-not-is_site.false)))
+pub returns-in_default-new : goal.returns-in_default-new
+returns-in_default-new c = absurd (none-some c.args.site.host.now (c.in_default-new.ensures ∙ site-fits c.args.site.host.now c.args.site.port (sym c.is_site_lem.ensures ∙ c.if-not-is_site.false)))
 
 pub invariant_of-self : goal.invariant_of-self
 invariant_of-self c =
