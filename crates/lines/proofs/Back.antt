@@ -7,7 +7,7 @@ use Rattle.std.proofs.lemmas.Bool.Decides.{nat_tests}
 use Rattle.octets.specs.declared.Class.TheVariants.{Text, Token, Blank, Visible}
 use Rattle.octets.specs.Answers.{Read, Fault}
 use Rattle.octets.specs.Classes.{has, is_digit}
-use Rattle.octets.specs.Fronts.{and_then, after, front, past}
+use Rattle.octets.specs.Fronts.{and_then, after}
 use Rattle.octets.proofs.Fronts.{front-append, past-append, all_append}
 use Rattle.lines.specs.Lines.{crlf, line_then, trim, trim_end, field_of, field_text, among}
 use Rattle.lines.specs.Heads.{Taking, read_then, head}

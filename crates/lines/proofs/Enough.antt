@@ -5,7 +5,7 @@ use Rattle.std.proofs.lemmas.List.{nil_from_length}
 use Rattle.octets.specs.declared.Class.TheVariants.{Text}
 use Rattle.octets.specs.Answers.{Answer, Read, Fault}
 use Rattle.octets.specs.Classes.{has}
-use Rattle.octets.specs.Fronts.{and_then, after, front, past}
+use Rattle.octets.specs.Fronts.{after, front, past}
 use Rattle.octets.proofs.Fronts.{after-some}
 use Rattle.octets.proofs.Options.{then_some, some_same}
 use Rattle.lines.specs.Lines.{crlf, line_then, field_of}

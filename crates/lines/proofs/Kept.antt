@@ -1,5 +1,5 @@
 -- What every field keeps is kept by all fields.
-use Rattle.std.proofs.Common.{◌≡◌, ℕ, zero, suc, Bool, true, false, cond, eqb, List, [], ◌∷◌, ◌++◌, length, Some, None, Option, sym, refl, ap, ◌∙◌, subst, arith}
+use Rattle.std.proofs.Common.{◌≡◌, ℕ, zero, suc, Bool, true, false, cond, eqb, List, [], ◌∷◌, ◌++◌, length, Some, None, Option, refl, ap, ◌∙◌, subst, arith}
 use Rattle.octets.specs.Answers.{Answer, Read, Fault}
 use Rattle.lines.specs.Lines.{line_then, field_of, among}
 use Rattle.lines.specs.Heads.{read_then, Taking, field_taken, field_then, head_then, head, fields}

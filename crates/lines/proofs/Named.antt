@@ -1,5 +1,5 @@
 -- The names of one line after another. Assumes nothing.
-use Rattle.std.proofs.Common.{◌≡◌, ℕ, suc, ◌+◌, ◌-◌, ◌<◌, ◌≤◌, Bool, true, false, ◌||◌, List, Some, None, Option, sym, ap, ◌∙◌, arith}
+use Rattle.std.proofs.Common.{◌≡◌, ℕ, suc, ◌+◌, ◌-◌, ◌<◌, ◌≤◌, Bool, false, ◌||◌, List, Some, Option, sym, ap, ◌∙◌, arith}
 use Rattle.octets.specs.declared.Class.TheVariants.{Token}
 use Rattle.octets.specs.Classes.{has}
 use Rattle.octets.specs.Fronts.{front}

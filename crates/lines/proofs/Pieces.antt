@@ -1,5 +1,5 @@
 -- The pieces of lines, written one after another. Assumes nothing.
-use Rattle.std.proofs.Common.{◌≡◌, ℕ, cond, leb, List, ◌++◌, length, take, drop, IfSome, Some, None, Option, sym, ap, ◌∙◌, subst, ⊎_elim, append_assoc}
+use Rattle.std.proofs.Common.{◌≡◌, ℕ, leb, List, ◌++◌, length, take, drop, IfSome, Some, None, Option, sym, ap, ◌∙◌, subst, ⊎_elim, append_assoc}
 use Rattle.std.proofs.lemmas.List.{take_at}
 use Rattle.std.proofs.lemmas.Bool.{cond-true, cond-false, cases_Bool}
 use Rattle.octets.specs.Buffers.{written, count}

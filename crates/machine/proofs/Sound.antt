@@ -1,5 +1,5 @@
 -- What every run keeps: the status, and that an act is named by the wait before the next step.
-use Rattle.std.proofs.Common.{◌≡◌, ℕ, zero, suc, ◌+◌, ◌-◌, Bool, true, false, cond, ◌&&◌, eqb, ltb, leb, List, length, get_or, set, Some, None, Option, sym, refl, ap, ◌∙◌, subst, arith, leb-true}
+use Rattle.std.proofs.Common.{◌≡◌, ℕ, zero, suc, ◌+◌, ◌-◌, Bool, true, false, cond, ◌&&◌, eqb, ltb, leb, List, length, get_or, Some, None, Option, sym, refl, ap, ◌∙◌, subst, arith, leb-true}
 use Rattle.std.proofs.lemmas.Bool.{and_parts}
 use Rattle.scripts.specs.declared.Step.{Step}
 use Rattle.scripts.specs.declared.Step.TheVariants.{Constant, Move, Sum, Product, Equal, Less, Jump, JumpIf, Load, Store, Wait}
@@ -7,7 +7,6 @@ use Rattle.scripts.specs.declared.Call.{Call}
 use Rattle.scripts.specs.declared.Call.TheVariants as call
 use Rattle.machine.specs.declared.Span.{Span}
 use Rattle.machine.specs.declared.Act.{Act}
-use Rattle.machine.specs.declared.Act.TheVariants as act
 use Rattle.machine.specs.declared.Machine.{Machine}
 use Rattle.machine.specs.declared.Status.{Status}
 use Rattle.machine.specs.declared.Status.TheVariants.{Waiting}
@@ -15,7 +14,7 @@ use Rattle.machine.specs.declared.Outcome.TheVariants.{Did, Refused}
 use Rattle.machine.specs.declared.Flow.{Flow}
 use Rattle.machine.specs.declared.Flow.TheVariants.{On, Waits, Faults}
 use Rattle.machine.specs.Limits.{allowed, Inside, Within}
-use Rattle.machine.specs.Step.{After, after, Moved, moved, beside, register, number_at, pair_at, span_at, and_then, act_at, waits, bit, assign, goto, assigns, jumps, combines, copies, jumps_if, loads, stores, effect, step_of}
+use Rattle.machine.specs.Step.{After, after, beside, register, number_at, pair_at, span_at, and_then, act_at, waits, goto, assigns, jumps, combines, copies, jumps_if, loads, stores, effect, step_of}
 use Rattle.machine.specs.Turn.{become, while_on, runs, turned, end_of}
 use Rattle.machine.specs.Acts.{Named}
 

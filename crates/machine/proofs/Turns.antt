@@ -1,5 +1,5 @@
 -- Turns that are cut and go on, and turns after the end.
-use Rattle.std.proofs.Common.{◌≡◌, ℕ, zero, suc, ◌+◌, ◌≤◌, Bool, true, false, cond, List, [], ◌∷◌, ◌++◌, length, take, drop, set, sym, refl, ap, ◌∙◌, suc-add, zero-add, arith}
+use Rattle.std.proofs.Common.{◌≡◌, ℕ, zero, suc, ◌+◌, ◌≤◌, Bool, true, false, cond, List, [], ◌∷◌, length, take, drop, set, sym, refl, ap, ◌∙◌, suc-add, zero-add, arith}
 use Rattle.std.proofs.lemmas.List.{length-take-le, take_at, drop_at}
 use Rattle.scripts.specs.declared.Step.{Step}
 use Rattle.machine.specs.declared.Act.{Act}
@@ -9,11 +9,10 @@ use Rattle.machine.specs.declared.Flow.{Flow}
 use Rattle.machine.specs.declared.Flow.TheVariants.{On, Waits, Faults}
 use Rattle.machine.specs.declared.Status.{Status}
 use Rattle.machine.specs.declared.Status.TheVariants.{Waiting, Running, Ended}
-use Rattle.machine.specs.declared.Outcome.{Outcome}
-use Rattle.machine.specs.declared.Outcome.TheVariants.{Did, Refused, Paused, Faulted, Idle}
+use Rattle.machine.specs.declared.Outcome.TheVariants.{Did, Refused, Paused}
 use Rattle.machine.specs.Limits.{allowed}
-use Rattle.machine.specs.Step.{After, after, step_of}
-use Rattle.machine.specs.Turn.{while_on, runs, hears, room, placed, bytes_of, become, Turned, turned, end_by, end_of, turn_by, turn_in, turn_of, fault_number}
+use Rattle.machine.specs.Step.{After, step_of}
+use Rattle.machine.specs.Turn.{while_on, runs, hears, room, placed, bytes_of, end_by, end_of, turn_by, turn_in, turn_of, fault_number}
 use Rattle.machine.specs.Laws.{Tells, Resumes, Ends}
 use Rattle.machine.proofs.Sound.{runs_sound}
 

@@ -4,7 +4,7 @@ use Rattle.scripts.specs.declared.Step.{Step}
 use Rattle.machine.specs.declared.Told.{Told}
 use Rattle.machine.specs.declared.Machine.{Machine}
 use Rattle.machine.specs.declared.Outcome.TheVariants.{Paused, Idle}
-use Rattle.machine.specs.Turn.{Turned, turned, turn_in, turn_of, fault_number, kind_of, site_of, code_of, bytes_of, room, placed, hears}
+use Rattle.machine.specs.Turn.{turned, turn_in, turn_of, fault_number, kind_of, site_of, code_of, bytes_of, room, placed, hears}
 
 -- the numbers of what is told are in the first four registers, its bytes at the front of the memory, and the rest stays
 abbrev pub Tells : Type 0

@@ -1,7 +1,6 @@
 -- A turn of a script: what it is told, a run of steps, and what comes of it.
-use Rattle.std.specs.Prelude.{ℕ, zero, suc, min, Bool, true, false, cond, List, [], ◌∷◌, ◌++◌, length, take, drop, replicate, slice_set}
+use Rattle.std.specs.Prelude.{ℕ, zero, suc, min, cond, List, [], ◌++◌, length, take, drop, replicate, slice_set}
 use Rattle.scripts.specs.declared.Step.{Step}
-use Rattle.machine.specs.declared.Act.{Act}
 use Rattle.machine.specs.declared.Told.{Told}
 use Rattle.machine.specs.declared.Told.TheVariants.{Silence, Begun, Answer, Barred, Heard, Kept}
 use Rattle.machine.specs.declared.Flow.{Flow}

@@ -1,5 +1,5 @@
 -- Words that were written are read back.
-use Rattle.std.proofs.Common.{◌≡◌, ℕ, ◌+◌, ◌-◌, ◌*◌, ◌/◌, ◌%◌, ◌^◌, ◌<◌, ◌≤◌, true, cond, not, eqb, leb, List, [], ◌∷◌, ◌++◌, length, get_or, Some, None, decimal, sym, refl, ap, ◌∙◌, ⊎_elim, append_assoc, arith}
+use Rattle.std.proofs.Common.{◌≡◌, ℕ, ◌+◌, ◌*◌, ◌/◌, ◌%◌, ◌^◌, ◌<◌, ◌≤◌, true, cond, not, eqb, leb, List, [], ◌∷◌, ◌++◌, length, get_or, Some, None, decimal, sym, refl, ap, ◌∙◌, ⊎_elim, append_assoc, arith}
 use Rattle.std.specs.List.{prefix_len}
 use Rattle.std.proofs.lemmas.Bool.{cond-true, cond-false, cases_Bool, cases_eq, and_from, and_left, le-leb, ne_eqb, or_left, not_from_false}
 use Rattle.std.proofs.lemmas.Fmt.{decimal_digit, first_decimal}
@@ -7,7 +7,6 @@ use Rattle.std.proofs.lemmas.Bool.Decides.{nat_tests}
 use Rattle.octets.specs.declared.Class.TheVariants.{Digit}
 use Rattle.octets.specs.Classes.{has, is_digit}
 use Rattle.octets.specs.Fronts.{and_then, front, past}
-use Rattle.octets.specs.Numbers.{number}
 use Rattle.octets.proofs.Fronts.{after-append, front-append, past-append}
 use Rattle.octets.proofs.Numbers.{number-decimal, number_digits}
 use Rattle.words.specs.Numerals.{unpadded, numeral, number_after}

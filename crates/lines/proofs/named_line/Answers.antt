@@ -27,5 +27,5 @@ returns c =
     let line : c.split_at-2.result.0.now ≡ take (prefix_len (has Text) s) s = c.split_at-2.ensures.front ∙ ap (λ k. take k s) long in
     record {
       is = (λ i. Some (line i, c.in-Some.rest.now)) ∙ ap (λ o. and_then o (λ t. Some (take (prefix_len (has Text) s) s, t))) (c.in-Some.ensures ∙ ap (after crlf) (c.split_at-2.ensures.back ∙ ap (λ k. drop k s) long));
-      name = (c.span-n.ensures.is ∙ sym (ap (prefix_len (has Token)) line ∙ front_in (has Token) (has Text) token_text s), omega (arith, c.split_at-2.ensures.front-len));
+      name = (c.span-n.ensures.is ∙ sym (ap (prefix_len (has Token)) line ∙ front_in (has Token) (has Text) token_text s), omega (arith, c.split_at-2.ensures.front_len));
     }

@@ -4,4 +4,4 @@ use Rattle.assembler.proofs.labels.is_same.Goals as goal
 use Rattle.std.proofs.lemmas.Bool.Decides.{Decides-eqb}
 
 pub returns : goal.returns
-returns c = grind (arith, bytes_eq-Decides c.args.a.now c.args.b.now, slice_eq-Decides Decides-eqb _ _ _ c.eq.ensures)
+returns c = grind (arith, bytes_eq-Decides c.args.a.now c.args.b.now, slice_eq-Decides Decides-eqb c.args.a.now c.args.b.now c.eq.result c.eq.ensures)

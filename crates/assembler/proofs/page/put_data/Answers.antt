@@ -12,16 +12,16 @@ loop-i-init c =
     let d = c.args.d in
     (sym (ap (λ p. added (take c.args.from c.args.body.now) c.args.line.now (data_rows p d.x d.y (data_of d))) (add-zero d.place)), omega arith, omega arith)
 
-pub returns-in-err-at : goal.returns-in-err-at
-returns-in-err-at c =
+pub returns-in_err-at : goal.returns-in_err-at
+returns-in_err-at c =
     let d = c.args.d in
     let i = c.loop-i.i in
-    let p = err_from_is_err_and c.from-residual.result c.from-residual.ensures.1 in
+    let p = err_from_is_err_and c.from_residual.result c.from_residual.ensures.1 in
     let rows = c.byte_rows-rows.ensures ∙ ap (byte_rows ((d.place + i) % 4294967296) d.x d.y) c.byte.ensures in
     record {
       is = ap (λ r. front_of r c.put.new.body) p.1
           ∙ ap Err p.2
-          ∙ data_none d.place d.x d.y i (data_of d) _ (take c.loop-i.at c.loop-i.body) c.args.line.now (omega (arith, c.count-i-end.ensures)) rows _ c.in-err-at.ensures.is
+          ∙ data_none d.place d.x d.y i (data_of d) _ (take c.loop-i.at c.loop-i.body) c.args.line.now (omega (arith, c.count-i-end.ensures)) rows _ c.in_err-at.ensures.is
           ∙ sym c.loop-i.invariant.0;
       within = subst (λ (r : Result ℕ Fault). IfOk r (λ n. n ≤ 16000)) (sym p.1) tt;
     }
@@ -31,9 +31,9 @@ loop-i-preserved c =
     let d = c.args.d in
     let i = c.loop-i.i in
     let rows = c.byte_rows-rows.ensures ∙ ap (byte_rows ((d.place + i) % 4294967296) d.x d.y) c.byte.ensures in
-    let next = c.in-ok-at.ensures.within in (
+    let next = c.in_ok-at.ensures.within in (
       c.loop-i.invariant.0
-          ∙ data_more d.place d.x d.y i (data_of d) _ (take c.loop-i.at c.loop-i.body) c.args.line.now (omega (arith, c.count-i-end.ensures)) rows _ c.in-ok-at.ensures.is,
+          ∙ data_more d.place d.x d.y i (data_of d) _ (take c.loop-i.at c.loop-i.body) c.args.line.now (omega (arith, c.count-i-end.ensures)) rows _ c.in_ok-at.ensures.is,
       omega (arith, next.0, c.loop-i.invariant.1, ap length rows),
       next.1,
     )

@@ -14,7 +14,7 @@ returns-in_default c =
     let w = c.args.word.now in
     let bs = c.args.bytes.now in
     let no = too_long c.args.from (w ++ hex_of bs) c.args.out.now (omega (arith, c.in_default.ensures)) in
-    record { answer = no.0; after = no.1; bytes = all-bytes bs c.type-inv.bytes }
+    record { answer = no.0; after = no.1; bytes = all-bytes bs c.type_inv.bytes }
 
 pub returns-then-word-room : goal.returns-then-word-room
 returns-then-word-room c =
@@ -27,7 +27,7 @@ returns-then-word-room c =
     let h : length out < c.args.from + length (w ++ hex_of bs) =
     elim c.then-word-room.branch [ then-word-room-via-then-word-room x ↦ omega (arith, x.if-word-room.true) | then-word-room-via-else-word-room+then-bytes-room x ↦ omega (arith, x.if-word-room.false, x.if-bytes-room.true) ] in
     let no = too_long c.args.from (w ++ hex_of bs) out h in
-    record { answer = no.0; after = no.1; bytes = all-bytes bs c.type-inv.bytes }
+    record { answer = no.0; after = no.1; bytes = all-bytes bs c.type_inv.bytes }
 
 pub loop-b-init : goal.loop-b-init
 loop-b-init c =
@@ -81,5 +81,5 @@ returns c =
     record {
       answer = ap Some whole ∙ sym (cond-true _ _ _ fits);
       after = sym (over_none c.loop-b.at c.loop-b.out) ∙ sym (ap (over c.loop-b.at c.loop-b.out) none) ∙ sym i.0 ∙ start ∙ sym (cond-true _ _ _ fits);
-      bytes = all-bytes bs c.type-inv.bytes;
+      bytes = all-bytes bs c.type_inv.bytes;
     }

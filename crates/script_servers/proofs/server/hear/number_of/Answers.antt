@@ -7,12 +7,12 @@ returns-then-n-ge16 c = sym (number-full _ _ _ (omega arith)) ∙ c.loop-known.i
 
 pub returns-then-same_site : goal.returns-then-same_site
 returns-then-same_site c =
-    sym (number_here _ _ _ _ _ _ c.loop-known-test.true c.if-n-ge16.false c.same_site_lem.ensures c.if-same_site.true)
+    sym (number_here _ _ _ _ _ _ c.loop-known-test.true c.if-n-ge16.false c.same_site.ensures c.if-same_site.true)
     ∙ c.loop-known.invariant.0
 
 pub loop-known-preserved : goal.loop-known-preserved
 loop-known-preserved c = (
-  sym (number-next _ _ _ _ _ _ c.loop-known-test.true c.if-n-ge16.false c.same_site_lem.ensures c.if-same_site.false)
+  sym (number-next _ _ _ _ _ _ c.loop-known-test.true c.if-n-ge16.false c.same_site.ensures c.if-same_site.false)
       ∙ c.loop-known.invariant.0,
   omega arith,
 )

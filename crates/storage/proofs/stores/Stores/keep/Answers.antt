@@ -9,6 +9,6 @@ invariant_of-self c = (search rules, (short_set _ _ _ c.args.self.now.short (ome
 pub returns : goal.returns
 returns c = record {
   answer = sym (le-leb _ _ (omega arith));
-  after = kept c.args.self.now.bytes c.args.self.now.lens _ _ c.args.bytes.now _ _ _ _ c.number-place.ensures.is c.deref-mut.ensures.value c.put.ensures c.args.self.now.short
+  after = kept c.args.self.now.bytes c.args.self.now.lens _ _ c.args.bytes.now _ _ _ _ c.number-place.ensures.is c.deref_mut.ensures.value c.put.ensures c.args.self.now.short
       (omega arith) (omega arith) (omega arith) (omega arith) (search rules);
 }

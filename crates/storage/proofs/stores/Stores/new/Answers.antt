@@ -7,4 +7,4 @@ pub invariant_of-result : goal.invariant_of-result
 invariant_of-result c = (search rules, ((λ s. omega (arith, get_d_same {X = ℕ} 0 16 s)), (search rules, tt)))
 
 pub returns : goal.returns
-returns c = fun_ext (λ s. ap (λ n. take n (drop (s * 4096) (vec_items c.in-ok-bytes.bytes))) (get_d_same {X = ℕ} 0 16 s))
+returns c = fun_ext (λ s. ap (λ n. take n (drop (s * 4096) (vec_items c.in_ok-bytes.bytes))) (get_d_same {X = ℕ} 0 16 s))

@@ -6,16 +6,16 @@ use Rattle.storage.proofs.table.Table.add.Goals as goal
 
 -- a site's host always fits a row
 pub returns-in_default-new : goal.returns-in_default-new
-returns-in_default-new c = absurd (none-some c.args.site.host.now (c.in_default-new.ensures ∙ site-fits c.args.site.host.now c.args.site.port (sym c.is_site_lem.ensures ∙ c.if-not-is_site.false)))
+returns-in_default-new c = absurd (none-some c.args.site.host.now (c.in_default-new.ensures ∙ site-fits c.args.site.host.now c.args.site.port (sym c.is_site.ensures ∙ c.if-not-is_site.false)))
 
 pub invariant_of-self : goal.invariant_of-self
 invariant_of-self c =
-    let free : c.args.self.now.len < 16 = room c.args.self.now c.args.site.host.now c.in-Some-new.host c.args.site.port _ _ _ c.len.ensures.is c.is_site_lem.ensures c.if-not-is_site.false c.in-Some-new.ensures c.in-Some.ensures in
-    let grown = all_grown c.args.self.now c.args.site.host.now c.in-Some-new.host c.args.site.port _ _ _ c.len.ensures.is c.is_site_lem.ensures c.if-not-is_site.false c.in-Some-new.ensures c.in-Some.ensures in
+    let free : c.args.self.now.len < 16 = room c.args.self.now c.args.site.host.now c.in-Some-new.host c.args.site.port _ _ _ c.len.ensures.is c.is_site.ensures c.if-not-is_site.false c.in-Some-new.ensures c.in-Some.ensures in
+    let grown = all_grown c.args.self.now c.args.site.host.now c.in-Some-new.host c.args.site.port _ _ _ c.len.ensures.is c.is_site.ensures c.if-not-is_site.false c.in-Some-new.ensures c.in-Some.ensures in
     (omega arith, (length-set _ _ _ ∙ c.args.self.now.all, (grown, tt)))
 
 pub returns : goal.returns
 returns c = record {
-  answer = numbered_is c.args.self.now c.args.site.host.now c.in-Some-new.host c.args.site.port _ _ _ c.len.ensures.is c.is_site_lem.ensures c.if-not-is_site.false c.in-Some-new.ensures c.in-Some.ensures;
-  after = grown_is c.args.self.now c.args.site.host.now c.in-Some-new.host c.args.site.port _ _ _ c.len.ensures.is c.is_site_lem.ensures c.if-not-is_site.false c.in-Some-new.ensures c.in-Some.ensures;
+  answer = numbered_is c.args.self.now c.args.site.host.now c.in-Some-new.host c.args.site.port _ _ _ c.len.ensures.is c.is_site.ensures c.if-not-is_site.false c.in-Some-new.ensures c.in-Some.ensures;
+  after = grown_is c.args.self.now c.args.site.host.now c.in-Some-new.host c.args.site.port _ _ _ c.len.ensures.is c.is_site.ensures c.if-not-is_site.false c.in-Some-new.ensures c.in-Some.ensures;
 }
