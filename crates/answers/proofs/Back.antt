@@ -1,16 +1,16 @@
 -- An answer that was written is read back. Assumes nothing.
-use Rattle.std.proofs.Common.{◌≡◌, ℕ, ◌^◌, ◌<◌, ◌≤◌, Bool, true, false, cond, ◌&&◌, eqb, ltb, leb, List, [], ◌∷◌, ◌++◌, length, get_or, Some, None, codes, decimal, Option, sym, refl, ap, ◌∙◌, append_assoc, arith}
+use Rattle.std.proofs.Common.{◌≡◌, ℕ, ◌^◌, ◌<◌, ◌≤◌, true, false, ◌&&◌, eqb, ltb, leb, List, [], ◌∷◌, ◌++◌, length, get_or, Some, None, codes, decimal, Option, refl, ap, ◌∙◌, append_assoc, arith}
 use Rattle.std.specs.List.{prefix_len}
 use Rattle.std.proofs.lemmas.Fmt.{decimal_nonempty}
 use Rattle.std.proofs.lemmas.Bool.{cond-true, cond-false, and_from, and_parts, and_right, leb-true, eqb-true, eq-eqb, lt-ltb}
 use Rattle.octets.specs.declared.Class.TheVariants.{Digit, Visible}
 use Rattle.octets.specs.Answers.{Answer, Read, Fault}
 use Rattle.octets.specs.Classes.{has}
-use Rattle.octets.specs.Fronts.{and_then, after, front, past}
+use Rattle.octets.specs.Fronts.{and_then, after}
 use Rattle.octets.specs.Numbers.{number}
 use Rattle.octets.proofs.Fronts.{leading_stops, front-append, past-append}
 use Rattle.octets.proofs.Numbers.{number_digits, number-decimal}
-use Rattle.addresses.specs.Address.{site_ok, read_site}
+use Rattle.addresses.specs.Address.{read_site}
 use Rattle.addresses.specs.Written.{site_text}
 use Rattle.lines.specs.Heads.{read_then, head}
 use Rattle.lines.specs.Lines.{crlf, line_then, field_text, among, token_ok, token_fits, token_line, length_line}
@@ -18,7 +18,7 @@ use Rattle.lines.proofs.Back.{line_back, field_then_lem, fields-end}
 use Rattle.lines.proofs.Values.{decimal_digits, decimal_visible, site_visible, site_back}
 use Rattle.answers.specs.declared.Kind.{Kind}
 use Rattle.answers.specs.declared.Kind.TheVariants.{Asked, Page}
-use Rattle.answers.specs.Answers.{limit, Allows, All, Only, Known, unknown, length_field, length_from, token_field, allows_of, allowed_field, taking, code_then, status_then, Content, body_of, answer_from, read_answer}
+use Rattle.answers.specs.Answers.{limit, Allows, All, Only, Known, unknown, length_field, length_from, allows_of, allowed_field, taking, status_then, Content, body_of, answer_from, read_answer}
 use Rattle.answers.specs.Written.{three_digits, allows_text, allowed_line, answer_text, allows_fits, can_write}
 use Rattle.answers.proofs.Digits.{three_back}
 

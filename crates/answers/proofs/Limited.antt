@@ -1,5 +1,5 @@
 -- What is read of an answer is within its limits.
-use Rattle.std.proofs.Common.{◌≡◌, ℕ, ◌+◌, ◌-◌, ◌*◌, ◌<◌, ◌≤◌, Bool, true, false, cond, ◌&&◌, eqb, ltb, leb, List, [], ◌∷◌, length, Some, None, codes, Option, sym, refl, ap, ◌∙◌, subst, arith, eqb-true}
+use Rattle.std.proofs.Common.{◌≡◌, ℕ, ◌+◌, ◌-◌, ◌*◌, ◌≤◌, Bool, true, false, cond, ◌&&◌, eqb, ltb, leb, List, [], ◌∷◌, length, Some, None, codes, Option, sym, refl, subst, arith, eqb-true}
 use Rattle.std.specs.List.{prefix_len}
 use Rattle.std.proofs.lemmas.Bool.{leb-true}
 use Rattle.octets.specs.declared.Class.TheVariants.{Digit}
@@ -10,7 +10,7 @@ use Rattle.lines.specs.Heads.{read_then, fields}
 use Rattle.lines.specs.Lines.{same_name, token_ok, token_fits}
 use Rattle.lines.proofs.Kept.{refused, same_read, fields_keep}
 use Rattle.answers.specs.declared.Kind.{Kind}
-use Rattle.answers.specs.Answers.{limit, Allows, Known, unknown, length_from, length_field, token_field, allows_of, allowed_field, taking, status_then, Content, body_of, answer_from, read_answer}
+use Rattle.answers.specs.Answers.{limit, Allows, Known, unknown, length_from, length_field, token_field, allows_of, allowed_field, taking, status_then, Content, body_of, answer_from}
 use Rattle.answers.specs.Within.{WithinLimits}
 
 no_number : (n : ℕ) → None ≡ Some n → ⊥

@@ -1,5 +1,5 @@
 -- Answers as bytes: a status line, fields, an empty line, a body. Assumes nothing.
-use Rattle.std.specs.Prelude.{ℕ, Bool, true, false, cond, ◌&&◌, List, length, Some, None, codes, Option, ◌==◌, nat_lt, slice_index}
+use Rattle.std.specs.Prelude.{ℕ, cond, ◌&&◌, List, length, Some, None, codes, Option, ◌==◌, nat_lt, slice_index}
 use Rattle.std.specs.List.{prefix_len}
 use Rattle.octets.specs.declared.Class.TheVariants.{Digit}
 use Rattle.octets.specs.Answers.{Answer, Read, Fault}

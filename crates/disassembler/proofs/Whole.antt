@@ -1,5 +1,5 @@
 -- The text of a page is assembled to that page.
-use Rattle.std.proofs.Common.{◌≡◌, ℕ, zero, suc, ◌+◌, ◌*◌, ◌/◌, ◌%◌, ◌<◌, ◌≤◌, Bool, true, false, cond, not, ◌&&◌, eqb, leb, List, [], ◌∷◌, ◌++◌, length, get_or, take, drop, Some, Ok, Err, Option, Result, sym, refl, ap, ◌∙◌, ⊎_elim, append_assoc, append-nil, arith, length-append}
+use Rattle.std.proofs.Common.{◌≡◌, ℕ, zero, suc, ◌+◌, ◌*◌, ◌/◌, ◌%◌, ◌<◌, ◌≤◌, Bool, true, false, cond, ◌&&◌, eqb, leb, List, [], ◌∷◌, ◌++◌, length, get_or, take, drop, Some, Ok, Err, Option, Result, sym, refl, ap, ◌∙◌, ⊎_elim, append_assoc, append-nil, arith, length-append}
 use Rattle.std.specs.List.{prefix_len, AllByRecursion as All}
 use Rattle.std.proofs.ByRecursion.{All-get_or, All-from_get_or, All-take, All-drop}
 use Rattle.std.proofs.lemmas.List.{take_all, take-append-drop, length-take-le, length-drop}
@@ -12,7 +12,6 @@ use Rattle.scripts.specs.declared.Call.{Call}
 use Rattle.scripts.specs.declared.Unreadable.{Unreadable}
 use Rattle.scripts.specs.Page.{word, step_by, call_by, wait_for, step_in, steps_in, page_in, head_of}
 use Rattle.script_lines.specs.Operands.{and_on}
-use Rattle.script_lines.specs.Reading.{step}
 use Rattle.assembler.specs.Texts.{grown, lines}
 use Rattle.assembler.specs.Assembled.{row_bytes, added, with_meaning, with_line, go_on, lines_from, with_head, assembled}
 use Rattle.disassembler.specs.Lines.{line_then, row_in}

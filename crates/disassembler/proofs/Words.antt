@@ -8,11 +8,9 @@ use Rattle.std.proofs.lemmas.Bool.Decides.{nat_tests}
 use Rattle.octets.specs.declared.Class.TheVariants.{Blank, Visible}
 use Rattle.octets.specs.Classes.{has, is_digit}
 use Rattle.octets.specs.Fronts.{after, front, past}
-use Rattle.octets.specs.Numbers.{number}
 use Rattle.octets.proofs.Fronts.{front-append, past-append, all-front}
 use Rattle.octets.proofs.Numbers.{number-decimal, number_digits}
 use Rattle.script_lines.specs.declared.Row.{Row}
-use Rattle.script_lines.specs.declared.Expected.{Expected}
 use Rattle.script_lines.specs.declared.Expected.TheVariants as expected
 use Rattle.script_lines.specs.declared.Operand.{Operand}
 use Rattle.script_lines.specs.declared.Operand.TheVariants as operand

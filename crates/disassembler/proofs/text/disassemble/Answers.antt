@@ -5,12 +5,12 @@ use Rattle.disassembler.proofs.text.disassemble.Goals as goal
 
 pub put_rows-size-requires : goal.put_rows-size-requires
 put_rows-size-requires c =
-    let h = page_ok c.args.page.now _ (sym c.in-ok-script.ensures) in
+    let h = page_ok c.args.page.now _ (sym c.in_ok-script.ensures) in
     let same = ap length c.steps-steps.ensures.steps in
     (c.steps-steps.ensures.few, (omega (arith, h.0.size, same, c.split_at.ensures.back_len), refl))
 
-pub returns-in-err-script : goal.returns-in-err-script
-returns-in-err-script c = record { size = search rules; bytes = search rules; back = back_of c.args.page.now (λ i. omega (arith, c.type-inv.page i)) }
+pub returns-in_err-script : goal.returns-in_err-script
+returns-in_err-script c = record { size = search rules; bytes = search rules; back = back_of c.args.page.now (λ i. omega (arith, c.type_inv.page i)) }
 
 pub returns : goal.returns
-returns c = record { size = search rules; bytes = search rules; back = back_of c.args.page.now (λ i. omega (arith, c.type-inv.page i)) }
+returns c = record { size = search rules; bytes = search rules; back = back_of c.args.page.now (λ i. omega (arith, c.type_inv.page i)) }

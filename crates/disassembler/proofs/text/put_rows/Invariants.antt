@@ -4,6 +4,6 @@ use Rattle.disassembler.proofs.text.put_rows.Given as goal
 
 abbrev pub invariant-loop-i : goal.invariant-loop-i
 invariant-loop-i l =
-    (rows_text l.steps l.body ≡ take l.at l.out ++ rows_text (l.steps - l.-i) l.rest)
-    × (l.at ≤ 40 * l.-i)
-    × (length l.rest ≡ (l.steps - l.-i) * 8)
+    (rows_text l.steps l.body ≡ take l.at l.out ++ rows_text (l.steps - l._i) l.rest)
+    × (l.at ≤ 40 * l._i)
+    × (length l.rest ≡ (l.steps - l._i) * 8)

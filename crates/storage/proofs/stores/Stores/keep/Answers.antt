@@ -4,7 +4,7 @@ use Rattle.storage.proofs.Blocks.{kept, short_set}
 use Rattle.storage.proofs.stores.Stores.keep.Goals as goal
 
 pub invariant_of-self : goal.invariant_of-self
-invariant_of-self c = (search rules, (short_set _ _ _ c.args.self.now.short (omega arith) (omega arith), (c.args.self.now.room, tt)))
+invariant_of-self c = record { all = search rules; short = short_set _ _ _ c.args.self.now.short (omega arith) (omega arith); room = c.args.self.now.room }
 
 pub returns : goal.returns
 returns c = record {

@@ -12,7 +12,7 @@ pub invariant_of-self : goal.invariant_of-self
 invariant_of-self c =
     let free : c.args.self.now.len < 16 = room c.args.self.now c.args.site.host.now c.in-Some-new.host c.args.site.port _ _ _ c.len.ensures.is c.is_site.ensures c.if-not-is_site.false c.in-Some-new.ensures c.in-Some.ensures in
     let grown = all_grown c.args.self.now c.args.site.host.now c.in-Some-new.host c.args.site.port _ _ _ c.len.ensures.is c.is_site.ensures c.if-not-is_site.false c.in-Some-new.ensures c.in-Some.ensures in
-    (omega arith, (length-set _ _ _ ∙ c.args.self.now.all, (grown, tt)))
+    record { few = omega arith; all = length-set _ _ _ ∙ c.args.self.now.all; sites = grown }
 
 pub returns : goal.returns
 returns c = record {
