@@ -1,42 +1,37 @@
 -- Values that stand for the same, decided by their parts.
-use Rattle.std.proofs.Common.{◌≡◌, Bool, true, false, ◌⊎◌, List, [], ◌∷◌, map, length, Decides, sym, refl, ap, ◌∙◌, inl, inr}
-use lib.ListN.{length-map}
-use Rattle.std.specs.Cmp.Lexicographic.{Matches, Same, Apart}
+use Rattle.std.proofs.Common.{◌≡◌, Bool, ◌&&◌, eqb, List, [], ◌∷◌, map, Decides, sym, refl, ap, ◌∙◌}
+use Rattle.std.specs.Ordering.{on}
+use Rattle.std.specs.Cmp.Lexicographic.{pointwise}
+use Rattle.std.proofs.lemmas.Bool.{and_parts, and_from}
 use Rattle.std.proofs.lemmas.Slice.Eq.{slice_eq-Decides}
 use Rattle.machine.specs.declared.Told.{Told as MachineTold}
 use Rattle.machine.specs.declared.Told.TheVariants as by
 use Rattle.machine.specs.Turn.{bytes_of}
 use Rattle.pages.specs.Sites.{Bytes}
+use Rattle.pages.specs.Browser.{Word}
+use Rattle.windows.specs.Queues.{same_words}
 use Rattle.windows.specs.Scripts.{told_of, bytes_told}
 use Rattle.std.proofs.lemmas.Bool.Decides.{Decides-eqb}
 
+-- two words are the same where their sites and their bytes are
+pub words_decide : (a b : Word) → Decides (same_words a b) (a ≡ b)
+words_decide a b =
+    let from = Decides-eqb a.from b.from in
+    let what = slice_eq-Decides Decides-eqb a.what b.what _ refl in (
+      λ t. let p = and_parts (eqb a.from b.from) (pointwise eqb a.what b.what) t in λ i. record { from = from.0 p.0 i; what = what.0 p.1 i },
+      λ e. and_from (eqb a.from b.from) (pointwise eqb a.what b.what) (from.1 (λ i. (e i).from)) (what.1 (λ i. (e i).what)),
+    )
+
 -- lists whose elements are compared by what they stand for
-module _ {W V : Type 0} (f : W → V) where
-  abbrev compared : W → W → Bool → Type 0
-  compared a b r = Decides r (f a ≡ f b)
+module _ {W V : Type 0} (f : W → V) {E : V → V → Bool} (decides : (a b : V) → Decides (E a b) (a ≡ b)) where
+  pointwise-map : (xs ys : List W) → pointwise (on f E) xs ys ≡ pointwise E (map f xs) (map f ys)
+  pointwise-map [] [] = refl
+  pointwise-map [] (y ∷ ys) = refl
+  pointwise-map (x ∷ xs) [] = refl
+  pointwise-map (x ∷ xs) (y ∷ ys) = ap (λ b. E (f x) (f y) && b) (pointwise-map xs ys)
 
-  abbrev equal : V → V → Bool → Type 0
-  equal a b r = Decides r (a ≡ b)
-
-  same_map : (xs ys : List W) → Same compared xs ys → Same equal (map f xs) (map f ys)
-  same_map [] [] h = h
-  same_map [] (y ∷ ys) h = h
-  same_map (x ∷ xs) [] h = h
-  same_map (x ∷ xs) (y ∷ ys) h = (h.0, same_map xs ys h.1)
-
-  apart_map : (xs ys : List W) → Apart compared xs ys → Apart equal (map f xs) (map f ys)
-  apart_map [] ys h = absurd h
-  apart_map (x ∷ xs) [] h = h
-  apart_map (x ∷ xs) (y ∷ ys) (inl h) = inl h
-  apart_map (x ∷ xs) (y ∷ ys) (inr h) = inr (apart_map xs ys h)
-
-  matches_map : (xs ys : List W) (r : Bool) → Matches compared xs ys r → Matches equal (map f xs) (map f ys) r
-  matches_map xs ys true h = (length-map xs f ∙ h.0 ∙ sym (length-map ys f), same_map xs ys h.1)
-  matches_map xs ys false (inl n) = inl (λ e. n (sym (length-map xs f) ∙ e ∙ length-map ys f))
-  matches_map xs ys false (inr h) = inr (apart_map xs ys h)
-
-  pub maps_decide : (xs ys : List W) (r : Bool) → Matches compared xs ys r → Decides r (map f xs ≡ map f ys)
-  maps_decide xs ys r h = slice_eq-Decides Decides-eqb (map f xs) (map f ys) r (matches_map xs ys r h)
+  pub maps_decide : (xs ys : List W) (r : Bool) → r ≡ pointwise (on f E) xs ys → Decides r (map f xs ≡ map f ys)
+  maps_decide xs ys r h = slice_eq-Decides decides (map f xs) (map f ys) r (h ∙ pointwise-map xs ys)
 
 -- what is told is known by its kind and by the bytes that go with it
 told_parts : (t : MachineTold) (bs : Bytes) → (bytes_told (told_of t bs) ≡ bytes_of t bs) × (told_of t (bytes_of t bs) ≡ told_of t bs)

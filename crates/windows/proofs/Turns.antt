@@ -1,5 +1,5 @@
 -- A turn, in the machine's words and in those of the promise.
-use Rattle.std.proofs.Common.{◌≡◌, ℕ, ◌<◌, ◌≤◌, true, ltb, leb, List, length, take, drop, sym, refl, ap, ◌∙◌, subst, arith, length-take}
+use Rattle.std.proofs.Common.{◌≡◌, ℕ, ◌≤◌, true, ltb, List, length, drop, sym, refl, ap, ◌∙◌, subst, arith, length-take}
 use Rattle.std.proofs.lemmas.Bool.{cond-true, ltb-true, lt-ltb, leb-true, and_parts}
 use Rattle.scripts.specs.declared.Step.{Step}
 use Rattle.machine.specs.declared.Told.{Told as MachineTold}

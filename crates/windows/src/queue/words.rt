@@ -2,7 +2,8 @@
 ghost use Rattle.std.specs.Prelude.{◌≡◌, [], Decides};
 ghost use Rattle.pages.specs.Browser.{other_words};
 ghost use Rattle.std.specs.Option.{option_map};
-ghost use Rattle.windows.specs.Queues.{word_of, words_of, appended, oldest};
+ghost use Rattle.windows.specs.Queues.{word_of, words_of, same_words, appended, oldest};
+ghost use Rattle.std.specs.Ordering.{on};
 ghost use Rattle.std.specs.Cmp.Rules.{comparing};
 ghost use Rattle.std.proofs.Common.{rules};
 
@@ -12,7 +13,7 @@ use super::{Queue, Word};
 const MOST: usize = 8;
 
 impl PartialEq for Word {
-    ghost equals = { λ x y r. Decides r (word_of x ≡ word_of y) };
+    ghost eq = { on word_of same_words };
 
     ghost laws = { Prim.search (comparing, rules) };
 
