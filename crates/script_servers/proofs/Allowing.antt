@@ -1,7 +1,7 @@
 -- Whom a number in a register allows.
 use Rattle.std.proofs.Common.{◌≡◌, ℕ, ◌<◌, ◌≤◌, eqb, List, length, get_or, Some, None, Option, sym, ap, ◌∙◌, arith}
 use Rattle.std.proofs.lemmas.List.{length-map, get_or-map}
-use Rattle.std.proofs.lemmas.Option.{slice_get_get_or, slice_get_past}
+use Rattle.std.proofs.lemmas.Option.{slice_get-get_or, slice_get_past}
 use Rattle.std.proofs.lemmas.Bool.{cond-false, ne_eqb}
 use Rattle.std.specs.List.{slice_get}
 use Rattle.addresses.specs.declared.Site.{Site}
@@ -22,4 +22,4 @@ module _ (sites : List Site) (n : ℕ) (a : n ≡ 16 → ⊥) (b : n ≡ 17 → 
   pub allows-site : (d : Site) → n < length sites → Some (Some (Only (get_or sites n d).host.now (get_or sites n d).port)) ≡ allows_by (sites_of sites) n
   allows-site d h =
       let within : n < length (sites_of sites) = simp length-map (omega arith) in
-      sym (by_number ∙ ap only (slice_get_get_or (sites_of sites) n (site_of d) within ∙ ap Some (get_or-map site_of sites n d (site_of d) h)))
+      sym (by_number ∙ ap only (slice_get-get_or (sites_of sites) n (site_of d) within ∙ ap Some (get_or-map site_of sites n d (site_of d) h)))

@@ -2,9 +2,9 @@ use Rattle.std.proofs.Common.{◌≡◌, ℕ, ◌<◌, ◌≤◌, length, refl, 
 use Rattle.script_servers.proofs.Tables.{sites_long, sites-at, sites-more, sites-all}
 use Rattle.script_servers.proofs.family.compare.same_sites.Goals as goal
 
-pub returns-then-a_b : goal.returns-then-a_b
-returns-then-a_b c =
-    (λ e. let z : ◌≡◌ {A = ℕ} 0 1 = cc in absurd (omega arith), λ q. absurd (c.if-a_b.true (sites_long _ _ q)))
+pub returns-then-a-b : goal.returns-then-a-b
+returns-then-a-b c =
+    (λ e. let z : ◌≡◌ {A = ℕ} 0 1 = cc in absurd (omega arith), λ q. absurd (c.if-a-b.true (sites_long _ _ q)))
 
 pub returns-then-not-same_site : goal.returns-then-not-same_site
 returns-then-not-same_site c =

@@ -23,6 +23,6 @@ returns c =
     let served = c.serve.ensures in
     record {
       within = written-within _ room _ _ served.count served.room;
-      answer = written-front _ room _ _ served.count served.room ∙ ap (fitting (length room)) (served-answer _ _ _ c.args.request.now _ there c.index-mut.ensures.value);
-      after = served_states _ _ _ c.args.request.now _ there c.index-mut.ensures.value c.serve.new.self served.after;
+      answer = written-front _ room _ _ served.count served.room ∙ ap (fitting (length room)) (served-answer _ _ _ c.args.request.now _ there c.index_mut.ensures.value);
+      after = served_states _ _ _ c.args.request.now _ there c.index_mut.ensures.value c.serve.new.self served.after;
     }
