@@ -1,9 +1,9 @@
 -- The two halves of an event are the event.
-use Rattle.std.proofs.Common.{◌≡◌, ℕ, Bool, true, false, cond, not, ◌&&◌, eqb, ltb, List, [], ◌∷◌, ◌++◌, length, Some, None, Option, sym, refl, ap, ◌∙◌}
+use Rattle.std.proofs.Common.{◌≡◌, ℕ, Bool, true, false, cond, not, ◌&&◌, eqb, ltb, List, [], ◌∷◌, ◌++◌, length, Some, None, Option, refl}
 use Rattle.machine.specs.Script.{State}
 use Rattle.pages.specs.Sites.{Bytes, Act, Idle, Asks, Says, Keeps, Looks, Opens, Request, Reply}
 use Rattle.pages.specs.Browser.{Window, Part, most_windows, nth, act_of, needs_by, needs_of, TurnOf}
-use Rattle.pages.specs.Outs.{Out, out, Asked, Said, Opened, is_of, let_by, outs_by}
+use Rattle.pages.specs.Outs.{out, Asked, Said, Opened, is_of, let_by, outs_by}
 use Rattle.pages.specs.Code.{ended_by, outs_with_of}
 use Rattle.windows.specs.Scripts.{by_machine}
 use Rattle.browser.specs.Ends.{finished, server_outs_of}

@@ -1,5 +1,5 @@
 -- What a browser stands for: the browser's part of the promise's world.
-use Rattle.std.specs.Prelude.{ℕ, List, [], map, length, None, vec_items}
+use Rattle.std.specs.Prelude.{[], map, length, None, vec_items}
 use Rattle.machine.specs.Script.{State}
 use Rattle.pages.specs.Sites.{Scripts}
 use Rattle.pages.specs.Browser.{Part}

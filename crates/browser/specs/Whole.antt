@@ -1,5 +1,5 @@
 -- Both halves of an event together, for every answer's bytes.
-use Rattle.std.specs.Prelude.{ℕ, List, Some, None, Option}
+use Rattle.std.specs.Prelude.{Some, None, Option}
 use Rattle.pages.specs.Sites.{Bytes, Request, Reply, Unreadable}
 use Rattle.browser.specs.Wire.{SiteTable, kind_for, reply_of}
 

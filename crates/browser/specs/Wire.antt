@@ -9,7 +9,7 @@ use Rattle.answers.specs.Seen.{allows}
 use Rattle.requests.specs.Requests.{Asking}
 use Rattle.requests.specs.Written.{request_text, can_write}
 use Rattle.machine.specs.Script.{State}
-use Rattle.pages.specs.Sites.{Bytes, Request, Reply, Unreadable, Readable, Served, Sites}
+use Rattle.pages.specs.Sites.{Bytes, Request, Reply, Unreadable, Readable, Sites}
 use Rattle.pages.specs.Browser.{nth}
 use Rattle.windows.specs.Scripts.{by_machine}
 

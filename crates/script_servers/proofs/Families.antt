@@ -1,13 +1,12 @@
 -- The states of a family, when one server's state changes, and when none does.
 use Rattle.std.proofs.Common.{◌≡◌, ℕ, suc, ◌<◌, ◌≤◌, Bool, true, false, cond, eqb, ltb, leb, ◌⊎◌, List, [], length, get_or, set, replicate, Some, None, vec_items, Option, sym, refl, ap, ◌∙◌, inl, inr, arith}
 use lib.ListN.{length-replicate}
-use Rattle.std.proofs.lemmas.Option.{slice_get_read, slice_get_past, slice_get-get_or}
+use Rattle.std.proofs.lemmas.Option.{slice_get_read, slice_get_past}
 use Rattle.std.proofs.lemmas.List.{get_or-replicate}
 use Rattle.std.proofs.lemmas.Bool.{cond-true, cond-false}
 use Rattle.std.proofs.lemmas.Bool.Decides.{eqb_tells, leb_tells}
 use Rattle.std.specs.Option.{option_map}
 use Rattle.pages.specs.Browser.{at}
-use Rattle.machine.specs.Script.{State}
 use Rattle.script_servers.specs.declared.family.ScriptServers.{ScriptServers}
 use Rattle.script_servers.specs.declared.server.Server.{Server}
 use Rattle.script_servers.specs.Family.{states_of}

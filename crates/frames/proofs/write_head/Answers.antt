@@ -20,7 +20,7 @@ returns c =
     ∙ ap (λ l. kind_text c.args.head.kind ++ (codes "https://" ++ l)) (sym (append_assoc host port end)) in
     let answer : c.put_head.result ≡ count (head_text head) out = c.put_head.ensures.answer ∙ ap (λ t. count t out) e in
     let after : c.put_head.new.out ≡ written (head_text head) out = c.put_head.ensures.after ∙ ap (λ t. written t out) e in
-    let can : can_write head ≡ true = and_from _ _ (sym c.if-not-is_site.ensures) (le-leb c.args.head.len 999999999 c.if-head-gt-MOST-BYTES.false) in
+    let can : can_write head ≡ true = and_from _ _ (sym c.if-not-is_site.ensures) (le-leb c.args.head.len 999999999 c.if-head-gt-MOST_BYTES.false) in
     record {
       answer = answer ∙ sym (cond-true _ _ _ can);
       after = after ∙ sym (cond-true _ _ _ can);

@@ -28,7 +28,7 @@ returns-then-len-ge16 c =
     let full = le-ltb (length (part_of b).windows) 16 (omega (arith, count_is window_of b.windows)) in
     record {
       part = acted_by c.args.window c.args.site b c.in-Open.is (part_of b) refl;
-      goal = sym (cond-false _ _ _ full) ∙ needed_by c.args.site b c.in-Open.is;
+      need = sym (cond-false _ _ _ full) ∙ needed_by c.args.site b c.in-Open.is;
       ready = refl;
       rest = refl;
     }
@@ -38,7 +38,7 @@ returns-in-Look c =
     let b = c.args.self.now in
     record {
       part = acted_by c.args.window c.args.site b c.in-Look.is (part_of c.look.new.self) c.look.ensures.part;
-      goal = needed_by c.args.site b c.in-Look.is;
+      need = needed_by c.args.site b c.in-Look.is;
       ready = refl;
       rest = c.look.ensures.rest.1;
     }
@@ -50,7 +50,7 @@ returns-else-len-ge16 c =
     let room = lt-ltb (length (part_of b).windows) 16 (omega (arith, count_is window_of b.windows)) in
     record {
       part = acted_by c.args.window c.args.site b c.in-Open.is (part_of b) refl;
-      goal = ap (λ (body : Bytes). Some (record { site = to; from = None; token = tokens_of b.tokens to; path = text_of c.in-Open.path; body = body })) c.empty.ensures
+      need = ap (λ (body : Bytes). Some (record { site = to; from = None; token = tokens_of b.tokens to; path = text_of c.in-Open.path; body = body })) c.empty.ensures
           ∙ sym (cond-true _ _ _ room)
           ∙ needed_by c.args.site b c.in-Open.is;
       ready = lt-ltb _ _ (omega arith);

@@ -19,7 +19,7 @@ returns-then-i-len c =
     let none = nth_past window_of (vec_items b.windows) c.args.window (omega arith) in
     record {
       part = ap (λ z. begun_by (scripts_in b) c.args.window z (part_of b)) (sym none);
-      goal = ap (λ z. needs_of (scripts_in b) z (part_of b)) (sym none);
+      need = ap (λ z. needs_of (scripts_in b) z (part_of b)) (sym none);
       out = ap (λ z. page_outs_of (scripts_in b) z (part_of b)) (sym none);
       fault = ap (run_fault (length (sites_in b))) (sym none);
       rest = (refl, refl);
@@ -48,7 +48,7 @@ returns c =
     let half = first_half window_of (scripts_in b) ws (part_of b).tokens (part_of b).kept i x y (number_of c.site-site.result) (deed_of c.deed_of-deed.result) at_i site act steps inside in
     record {
       part = half.0 _ c.act-need.ensures.part;
-      goal = half.1.0 _ c.act-need.ensures.need;
+      need = half.1.0 _ c.act-need.ensures.need;
       out = half.1.1.0 _ c.page_out-out.ensures;
       fault = half.1.1.1 _ (length (sites_in b)) outcome c.fault.ensures ran;
       rest = (refl, ap table_of c.act-need.ensures.rest);

@@ -14,7 +14,7 @@ use Rattle.browser.proofs.browser.Browser.open.Goals.{then-len-lt16, else-len-lt
 pub returns : goal.returns
 returns c = record {
   part = refl;
-  goal = elim c.if-len-lt16.branch [
+  need = elim c.if-len-lt16.branch [
     | then-len-lt16 w ↦ ap (option_map (need_of (tokens_of c.args.self.tokens))) w.need-is ∙ page_needed_lem (number_of c.args.site) (text_of c.args.path.now) (part_of c.args.self) _ (count_is window_of c.args.self.windows) (text_of w.empty.result) w.empty.ensures (omega arith)
     | else-len-lt16 w ↦ ap (option_map (need_of (tokens_of c.args.self.tokens))) w.need-is ∙ no_room (number_of c.args.site) (text_of c.args.path.now) (part_of c.args.self) _ (count_is window_of c.args.self.windows) (omega arith)
   ];

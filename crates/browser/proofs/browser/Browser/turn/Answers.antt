@@ -1,9 +1,8 @@
 -- The second call begins with what the first one left.
-use Rattle.std.proofs.Common.{◌≡◌, ℕ, List, ◌++◌, length, Option, sym, ap, ◌∙◌}
+use Rattle.std.proofs.Common.{◌≡◌, ℕ, ◌++◌, length, Option, sym, ap, ◌∙◌}
 use Rattle.machine.specs.Script.{State}
 use Rattle.pages.specs.Sites.{Bytes, Request}
 use Rattle.pages.specs.Browser.{Window, Part, nth, begun, needs, TurnOf}
-use Rattle.pages.specs.Outs.{Out}
 use Rattle.browser.specs.declared.pending.Pending.{Pending}
 use Rattle.browser.specs.declared.pending.Finished.{Finished}
 use Rattle.browser.specs.Ends.{request_of, finished, server_outs_of}

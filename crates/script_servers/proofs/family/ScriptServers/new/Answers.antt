@@ -1,4 +1,4 @@
-use Rattle.std.proofs.Common.{◌≡◌, ℕ, cond, ltb, Some, None, Option, sym, ap, ◌∙◌, rules}
+use Rattle.std.proofs.Common.{ℕ, cond, ltb, Some, None, Option, ap, ◌∙◌}
 use Rattle.machine.specs.Script.{State, initial}
 use Rattle.script_servers.specs.Serving.{Player, player}
 use Rattle.script_servers.specs.Views.{sites_of}

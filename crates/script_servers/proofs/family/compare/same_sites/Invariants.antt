@@ -1,4 +1,4 @@
-use Rattle.std.proofs.Common.{◌≡◌, length, take}
+use Rattle.std.proofs.Common.{◌≡◌, take}
 use Rattle.script_servers.specs.Views.{sites_of}
 use Rattle.script_servers.proofs.family.compare.same_sites.Given as goal
 
