@@ -1,12 +1,12 @@
 -- What an act does to others: of a window of the group, what it shows; of any window in two worlds that are alike, the same.
-use Rattle.std.proofs.Common.{◌≡◌, ℕ, Bool, true, false, cond, not, ◌&&◌, ◌||◌, eqb, ltb, List, [], ◌∷◌, ◌++◌, length, Some, None, Option, sym, refl, ap, ◌∙◌, subst, true≢false, ne_eqb, eqb-true}
+use Rattle.std.proofs.Common.{◌≡◌, ℕ, Bool, true, false, cond, not, ◌&&◌, ◌||◌, eqb, ltb, List, [], ◌∷◌, length, Some, None, Option, sym, refl, ap, ◌∙◌, subst, true≢false, ne_eqb, eqb-true}
 use mathlib.Core.Bool.{false≢true}
-use Rattle.pages.specs.Sites.{Bytes, Act, Idle, Asks, Says, Keeps, Looks, Opens, Told, Begun, Kept, Request, Reply, Served, Scripts, Sites}
-use Rattle.pages.specs.Browser.{Word, Window, Part, World, most_windows, at, nth, change, owns, hears, fresh, page_in, answered, token_after, acted, needs_by, page_needed, exchanged, served, Event, Opening, TurnOf}
-use Rattle.pages.specs.Outs.{Out, out, Asked, Said, Opened, is_of, let_by, outs_by, reply_to, Group, by_others, keep_only, let_out}
+use Rattle.pages.specs.Sites.{Bytes, Act, Idle, Asks, Says, Keeps, Looks, Opens, Told, Begun, Kept, Request, Reply, Served, Sites}
+use Rattle.pages.specs.Browser.{Word, Window, World, most_windows, at, nth, change, owns, hears, fresh, page_in, answered, token_after, needs_by, page_needed, exchanged, Event, Opening, TurnOf}
+use Rattle.pages.specs.Outs.{Out, out, Asked, Said, is_of, let_by, outs_by, reply_to, Group, by_others, keep_only, let_out}
 use Rattle.pages.specs.Promise.{Others, to_others}
 use Rattle.pages.specs.Laws.{told_by}
-use Rattle.pages.proofs.Places.{is_of-change, Sited, hears-site, hears-not, at_hidden, at_same}
+use Rattle.pages.proofs.Places.{Sited, hears-site, hears-not, at_hidden, at_same}
 use Rattle.pages.proofs.Same.{SameWindow, both_own, one_other, SameBut, none, pair, same_window, same_refl, same_join, same_length, same_change, same-done, hidden_change, SameFound, nobody, somebody, same_nth, same_site_lem}
 use Rattle.pages.proofs.Close.{Close, close_refl, close_sym, close_trans, told_same}
 use Rattle.pages.proofs.Turns.{does}

@@ -1,7 +1,7 @@
 -- Worlds that are alike but for a group, part by part; and the same said by views.
-use Rattle.std.proofs.Common.{◌≡◌, ℕ, Bool, true, false, cond, List, Some, None, Option, sym, refl, ap, ◌∙◌, subst}
+use Rattle.std.proofs.Common.{◌≡◌, ℕ, false, sym, refl, ap, ◌∙◌, subst}
 use Rattle.pages.specs.Sites.{Told}
-use Rattle.pages.specs.Browser.{Window, World, nth, change, owns}
+use Rattle.pages.specs.Browser.{Window, World, change, owns}
 use Rattle.pages.specs.Outs.{Group}
 use Rattle.pages.specs.Views.{View, view_of, Alike}
 use Rattle.pages.proofs.Same.{SameBut, same_refl, same_sym, same_trans, same_change, same-done, same_row, same_views, by_views}

@@ -4,8 +4,8 @@ use borrow.Author.Tests.{eqb-false}
 use Rattle.pages.specs.Sites.{Bytes, Act, Idle, Asks, Says, Keeps, Looks, Opens, Told, Kept, Request, Sites}
 use Rattle.pages.specs.Browser.{Word, Window, World, most_windows, at, nth, change, act_of, stepped, owns, hears, fresh, answered, token_after, page_needed, needs_of, begun_by, exchanged, happens, Event, Opening, TurnOf}
 use Rattle.pages.specs.Outs.{is_of}
-use Rattle.pages.specs.Runs.{Run, Due, iterate, trace, due_now, event_by, step_by, step, after}
-use Rattle.pages.specs.Views.{View, view_of, of_site, Effect, Runs, Learns, Finds, Hears, Stores, Serves, Begins, change_at, only_for, opening, with-own, with-served, takes, takes_all, effects_by, effects_of, effects, effects_on, effects_now, concat}
+use Rattle.pages.specs.Runs.{Run, Due, iterate, trace, due_now, event_by, step_by, step}
+use Rattle.pages.specs.Views.{View, view_of, of_site, Effect, Runs, Learns, Finds, Hears, Stores, Serves, Begins, change_at, only_for, opening, with-own, with-served, takes, takes_all, effects_by, effects_of, effects_on, effects_now, concat}
 use Rattle.pages.specs.Laws.{asking, fetching, running, ViewLaw, HistoryLaw, Foreign, nothing, asks, says, opens, TouchedOnly}
 use Rattle.pages.proofs.Places.{nth-change, is_of-change, change-length, at_there, Sited, sited_this, hears-site}
 use Rattle.pages.proofs.Turns.{showing, replied, after_run, does, turn_is}

@@ -3,7 +3,7 @@ use Rattle.std.proofs.Common.{◌≡◌, ℕ, Bool, true, false, cond, not, ◌&
 use mathlib.Core.Bool.{false≢true}
 use borrow.Author.Tests.{eqb-false}
 use Rattle.pages.specs.Sites.{Bytes, Act, Idle, Asks, Says, Keeps, Looks, Opens, Answer, Barred, Reply, Unreadable, Readable, Sites}
-use Rattle.pages.specs.Browser.{Window, World, nth, change, act_of, stepped, owns, answered, acted, with-windows, needs_by, begun_by, needs_of, exchanged, happens, TurnOf}
+use Rattle.pages.specs.Browser.{Window, World, nth, change, act_of, stepped, owns, answered, needs_by, begun_by, needs_of, exchanged, TurnOf}
 use Rattle.pages.specs.Outs.{What, Asked, Said, Let, Out, out, is_of, let_by, outs_by, outs_of, reply_to, outs, keep_only}
 use Rattle.pages.specs.Laws.{Every, asking, MayLetOut, asked, said, opened, let_see, told_by, LetOutOnly, ElseNothing, ToldIsLetOut}
 use Rattle.pages.proofs.Places.{nth-change}

@@ -1,8 +1,8 @@
 -- A round, turn by turn.
-use Rattle.std.proofs.Common.{◌≡◌, ℕ, zero, suc, ◌<◌, List, [], ◌∷◌, map, length, Some, None, Option, sym, refl, ap, ◌∙◌, subst, arith}
+use Rattle.std.proofs.Common.{◌≡◌, ℕ, zero, suc, ◌<◌, List, [], ◌∷◌, map, length, Some, Option, sym, refl, ap, ◌∙◌, arith}
 use Rattle.pages.specs.Sites.{Sites}
 use Rattle.pages.specs.Browser.{World, Event, TurnOf, happens}
-use Rattle.pages.specs.Runs.{Run, Agenda, Line, Rounds, Due, iterate, trace, count_from, line_due, due, due_now, step_by, step, after, event_by, event_now}
+use Rattle.pages.specs.Runs.{Run, Line, Rounds, iterate, trace, count_from, line_due, due, due_now, step_by, step, after, event_by, event_now}
 use Rattle.pages.specs.Laws.{RoundLaw}
 
 module _ {S R : Type 0} (p : Sites S R) where

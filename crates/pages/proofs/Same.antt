@@ -1,7 +1,6 @@
 -- Rows of windows that are the same but for a group, place by place: under a change, at a place, joined; and the same said by views.
 use Rattle.std.proofs.Common.{◌≡◌, ℕ, zero, suc, Bool, true, false, cond, eqb, List, [], ◌∷◌, ◌++◌, length, Some, None, Option, sym, refl, ap, ◌∙◌, subst, true≢false, eq-eqb, eqb-true}
 use mathlib.Core.Bool.{false≢true}
-use borrow.Author.Tests.{eqb-false}
 use Rattle.pages.specs.Browser.{Window, nth, change}
 use Rattle.pages.specs.Outs.{Group}
 use Rattle.pages.specs.Views.{row, of_site}

@@ -1,7 +1,7 @@
 -- What is let out in a turn, by whose window it is: what the group lets out, and what others do.
-use Rattle.std.proofs.Common.{◌≡◌, ℕ, Bool, true, false, cond, not, ◌&&◌, ◌||◌, eqb, List, [], ◌∷◌, ◌++◌, sym, refl, ap, ◌∙◌, subst, true≢false, ne_eqb, eqb-true}
+use Rattle.std.proofs.Common.{◌≡◌, ℕ, Bool, true, false, cond, not, ◌&&◌, ◌||◌, eqb, List, [], ◌∷◌, sym, refl, ap, ◌∙◌, eqb-true}
 use mathlib.Core.Bool.{false≢true}
-use Rattle.pages.specs.Sites.{Bytes, Act, Idle, Asks, Says, Keeps, Looks, Opens, Told, Answer, Barred, Reply, Unreadable, Readable}
+use Rattle.pages.specs.Sites.{Bytes, Act, Idle, Asks, Says, Keeps, Looks, Opens, Answer, Barred, Reply, Unreadable, Readable}
 use Rattle.pages.specs.Browser.{Window, nth, answered}
 use Rattle.pages.specs.Outs.{What, Asked, Said, Opened, Let, Out, out, is_of, let_by, outs_by, Group, reaches, by_others, keep_only, let_out}
 use Rattle.pages.specs.Laws.{told_by}

@@ -1,11 +1,11 @@
 -- An event keeps worlds alike but for a group, if the group lets out the same in both.
-use Rattle.std.proofs.Common.{◌≡◌, ℕ, Bool, true, false, cond, not, ◌&&◌, eqb, ltb, List, [], ◌∷◌, length, Some, None, Option, sym, refl, ap, ◌∙◌, subst, true≢false}
-use Rattle.pages.specs.Sites.{Bytes, Act, Idle, Asks, Says, Keeps, Looks, Opens, Silence, Request, Sites}
-use Rattle.pages.specs.Browser.{Window, Part, World, most_windows, nth, change, told_now, named, words_left, act_of, stepped, with-windows, acted, needs_by, needs_of, begun_by, needs, exchanged, happens, Event, Opening, TurnOf}
-use Rattle.pages.specs.Outs.{Out, out, Said, is_of, outs_by, outs_of, outs, Group, let_out}
+use Rattle.std.proofs.Common.{◌≡◌, ℕ, true, false, cond, not, ◌&&◌, eqb, ltb, [], ◌∷◌, Some, None, Option, sym, refl, ap, ◌∙◌, subst, true≢false}
+use Rattle.pages.specs.Sites.{Act, Idle, Asks, Says, Keeps, Looks, Opens, Silence, Request, Sites}
+use Rattle.pages.specs.Browser.{Window, World, most_windows, nth, told_now, named, words_left, act_of, stepped, acted, needs_by, needs_of, begun_by, needs, exchanged, happens, Event, Opening, TurnOf}
+use Rattle.pages.specs.Outs.{out, Said, outs_of, outs, Group, let_out}
 use Rattle.pages.specs.Promise.{Others}
 use Rattle.pages.proofs.Places.{nth-change, change-length, is_of-change, Sited, sited_this}
-use Rattle.pages.proofs.Same.{SameWindow, both_own, one_other, SameFound, nobody, somebody, same_change, same-done, same_nth}
+use Rattle.pages.proofs.Same.{both_own, one_other, SameFound, nobody, somebody, same_change, same-done, same_nth}
 use Rattle.pages.proofs.Close.{Close}
 use Rattle.pages.proofs.Turns.{after_run, does}
 use Rattle.pages.proofs.Shown.{shown, visible, own-lets}

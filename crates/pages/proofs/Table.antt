@@ -1,14 +1,12 @@
 -- Each fact of each row of the table holds, by computing; and case G by the promise.
-use Rattle.std.proofs.Common.{◌≡◌, ℕ, Bool, true, false, cond, eqb, refl}
-use mathlib.Core.Bool.{false≢true}
-use Rattle.pages.specs.Sites.{Request, Served, Sites}
+use Rattle.std.proofs.Common.{refl}
 use Rattle.pages.specs.Browser.{nth, change}
 use Rattle.pages.specs.Outs.{keep_only}
 use Rattle.pages.specs.Runs.{iterate, trace, line_due, count_from}
-use Rattle.pages.specs.Views.{row, of_site}
-use Rattle.pages.specs.Promise.{Others, AlikeRuns, let_outs, only}
+use Rattle.pages.specs.Views.{row}
+use Rattle.pages.specs.Promise.{Others, AlikeRuns, only}
 use Rattle.pages.specs.Laws.{Every}
-use Rattle.pages.specs.Cases.{doing, sites_of, asker, at_b, knows, refuses, answers, nobody, b, evening, TableHolds, GuestUnseen}
+use Rattle.pages.specs.Cases.{doing, sites_of, asker, at_b, knows, refuses, b, evening, TableHolds, GuestUnseen}
 use Rattle.pages.proofs.Whole.{same_runs}
 
 pub table_holds : TableHolds

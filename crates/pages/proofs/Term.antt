@@ -1,9 +1,9 @@
 -- The browser's part, with both halves of an event, is code as it must be.
 use Rattle.std.proofs.Common.{◌≡◌, ℕ, Some, None, Option, refl}
 use Rattle.pages.specs.Sites.{Request, Sites}
-use Rattle.pages.specs.Browser.{Window, Part, nth, needs_of, needs, exchanged, happens, Event, Opening, TurnOf}
+use Rattle.pages.specs.Browser.{Window, Part, nth, needs_of, needs, exchanged, Event, Opening, TurnOf}
 use Rattle.pages.specs.Outs.{outs_of, reply_to, outs}
-use Rattle.pages.specs.Code.{ended_by, turned, outs_with_of, outs_with, moved, IsCode, CodeStands}
+use Rattle.pages.specs.Code.{ended_by, outs_with_of, outs_with, moved, CodeStands}
 
 module _ {S R : Type 0} (p : Sites S R) where
   exchange_so : (e : Event) (q : Option Request) (b : Part S) (r : ℕ → R) → exchanged p e q b r ≡ record { part = ended_by p.scripts e q (reply_to p q r) b; servers = moved p q r }

@@ -1,17 +1,17 @@
 -- The promise over whole runs, from steps.
-use Rattle.std.proofs.Common.{◌≡◌, ℕ, zero, suc, Bool, true, false, cond, not, ◌&&◌, ◌||◌, eqb, List, [], ◌∷◌, length, Some, None, Option, sym, refl, ap, ◌∙◌, subst, true≢false, ne_eqb}
+use Rattle.std.proofs.Common.{◌≡◌, ℕ, zero, suc, Bool, true, false, cond, [], length, Some, None, Option, sym, refl, ap, ◌∙◌, subst, ne_eqb}
 use borrow.Author.Tests.{eqb-false}
-use Rattle.pages.specs.Sites.{Bytes, Act, Idle, Asks, Says, Keeps, Looks, Opens, Told, Request, Reply, Unreadable, Served, Sites}
-use Rattle.pages.specs.Browser.{Window, World, nth, told_now, named, act_of, Event, Opening, TurnOf}
-use Rattle.pages.specs.Outs.{Out, outs_of, outs, let_by, reply_to, Group, by_others, keep_only, let_out, reaches}
-use Rattle.pages.specs.Runs.{Run, Settings, Agenda, Due, iterate, trace, due, due_now, step_by, step, event_by, event_now, outs_on, outs_now, request_on, request_now, after, begin}
-use Rattle.pages.specs.Views.{View, view_of, Alike, row, of_site}
-use Rattle.pages.specs.Promise.{Others, AlikeRuns, to_others, let_outs, others_outs, others_requests, events, SameForOthers, silenced, nothings, only, NothingElse, FromSettings, AsIfNot, OneSite}
+use Rattle.pages.specs.Sites.{Act, Idle, Asks, Says, Keeps, Looks, Opens, Unreadable, Served, Sites}
+use Rattle.pages.specs.Browser.{Window, World, nth, act_of, Event, Opening, TurnOf}
+use Rattle.pages.specs.Outs.{outs_of, let_by, Group, by_others, keep_only, let_out}
+use Rattle.pages.specs.Runs.{Run, Settings, Due, iterate, trace, due, due_now, step_by, step, event_by, event_now, outs_on, outs_now, request_on, request_now, begin}
+use Rattle.pages.specs.Views.{View, of_site}
+use Rattle.pages.specs.Promise.{Others, AlikeRuns, to_others, let_outs, SameForOthers, silenced, nothings, only, NothingElse, FromSettings, AsIfNot, OneSite}
 use Rattle.pages.proofs.Same.{same_length}
-use Rattle.pages.proofs.Close.{Close, alike_close, close_alike}
+use Rattle.pages.proofs.Close.{alike_close, close_alike}
 use Rattle.pages.proofs.Shown.{visible, own-lets, given, other_lets}
-use Rattle.pages.proofs.Acts.{reply_done, SameResult}
-use Rattle.pages.proofs.Steps.{result_of, event_same}
+use Rattle.pages.proofs.Acts.{reply_done}
+use Rattle.pages.proofs.Steps.{event_same}
 
 module _ {S R : Type 0} {h : Group} {p q : Sites S R} (o : Others h p q) where
   -- ONE STEP: the same is due in both, and what comes of it is the same for others

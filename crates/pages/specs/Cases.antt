@@ -1,6 +1,6 @@
 -- A TABLE OF CASES: small worlds of sites a, b and c, what is done in them, and what must hold after it.
-use Rattle.std.specs.Prelude.{◌≡◌, ℕ, zero, suc, Bool, true, false, cond, List, [], ◌∷◌, ◌++◌, length, replicate, Some, None, Option, ◌==◌, nat_eq}
-use Rattle.pages.specs.Sites.{Bytes, Act, Idle, Asks, Says, Keeps, Looks, Opens, Told, Silence, Begun, Answer, Barred, Heard, Kept, Request, Reply, Unreadable, Readable, Served, Scripts, Sites}
+use Rattle.std.specs.Prelude.{◌≡◌, ℕ, zero, suc, Bool, false, cond, List, [], ◌∷◌, ◌++◌, length, replicate, Some, None, Option, ◌==◌, nat_eq}
+use Rattle.pages.specs.Sites.{Bytes, Act, Idle, Asks, Says, Keeps, Looks, Opens, Told, Silence, Begun, Answer, Barred, Heard, Kept, Request, Reply, Unreadable, Readable, Sites}
 use Rattle.pages.specs.Browser.{Word, Window, World, nth, told_now}
 use Rattle.pages.specs.Outs.{Out, out, Asked, Said, Opened, Let}
 use Rattle.pages.specs.Runs.{Run, Rounds, trace, step, after, outs_now, request_now}

@@ -1,7 +1,7 @@
 -- What code must do to be this browser: by its states, what it asks of a server in an event, what it does with the reply, and what it then says was let out.
-use Rattle.std.specs.Prelude.{◌≡◌, ℕ, List, [], ◌∷◌, Some, None, Option}
+use Rattle.std.specs.Prelude.{◌≡◌, ℕ, List, [], Some, None, Option}
 use Rattle.pages.specs.Sites.{Request, Reply, Scripts, Sites}
-use Rattle.pages.specs.Browser.{Window, Part, World, at, nth, act_of, begun, needs, ended, served, happens, Event, Opening, TurnOf}
+use Rattle.pages.specs.Browser.{Window, Part, at, nth, act_of, begun, needs, ended, served, happens, Event, Opening, TurnOf}
 use Rattle.pages.specs.Outs.{Out, outs_by, reply_to, outs}
 
 module _ {S : Type 0} where

@@ -1,9 +1,9 @@
 -- What else is promised: what is let out, and nothing more is; what each event does to each site and to each window; what holds at every moment.
-use Rattle.std.specs.Prelude.{◌≡◌, ℕ, suc, ◌<◌, ◌≤◌, Bool, true, false, cond, ◌&&◌, ◌||◌, ◌⊎◌, List, [], ◌∷◌, ◌++◌, map, length, Some, None, Option, ◌==◌, ◌≢◌, nat_eq, nat_lt}
-use Rattle.pages.specs.Sites.{Bytes, Act, Idle, Asks, Says, Keeps, Looks, Opens, Told, Silence, Begun, Answer, Barred, Heard, Kept, Request, Reply, Unreadable, Readable, Served, Sites}
-use Rattle.pages.specs.Browser.{Word, Window, Part, World, most_words, at, nth, change, told_now, words_left, is_silence, act_of, stepped, owns, hears, answered, token_after, page_in, needs, happens, Event, Opening, TurnOf}
-use Rattle.pages.specs.Outs.{What, Asked, Said, Opened, Let, Out, out, is_of, outs, keep_only}
-use Rattle.pages.specs.Runs.{Run, Open, Settings, Line, Rounds, Due, count_from, line_due, due_now, trace, step, after, begin, event_now, request_now}
+use Rattle.std.specs.Prelude.{◌≡◌, ℕ, suc, ◌<◌, ◌≤◌, Bool, true, false, cond, ◌&&◌, ◌⊎◌, List, [], ◌∷◌, ◌++◌, map, length, Some, None, Option, ◌==◌, ◌≢◌, nat_eq, nat_lt}
+use Rattle.pages.specs.Sites.{Bytes, Act, Idle, Asks, Says, Keeps, Looks, Opens, Told, Silence, Begun, Answer, Barred, Heard, Kept, Request, Readable, Sites}
+use Rattle.pages.specs.Browser.{Word, Window, World, most_words, at, nth, change, told_now, words_left, is_silence, act_of, stepped, owns, hears, answered, token_after, page_in, needs, happens, Event, Opening, TurnOf}
+use Rattle.pages.specs.Outs.{What, Asked, Said, Opened, Let, Out, out, outs, keep_only}
+use Rattle.pages.specs.Runs.{Run, Settings, Line, Rounds, Due, count_from, line_due, due_now, trace, step, after, begin, event_now, request_now}
 use Rattle.pages.specs.Views.{View, view_of, Effect, Serves, Hears, Begins, takes_all, effects, effects_now, concat}
 
 -- All of a list have it.

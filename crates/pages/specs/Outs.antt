@@ -1,7 +1,7 @@
 -- What sites let out in a turn, and to whom.
-use Rattle.std.specs.Prelude.{ℕ, Bool, true, false, cond, not, ◌&&◌, ◌||◌, List, [], ◌∷◌, ◌++◌, Some, None, Option, ◌==◌}
-use Rattle.pages.specs.Sites.{Bytes, Act, Idle, Asks, Says, Keeps, Looks, Opens, Request, Reply, Unreadable, Readable, Scripts, Sites}
-use Rattle.pages.specs.Browser.{Window, Part, World, nth, act_of, needs_of, served, Event, Opening, TurnOf}
+use Rattle.std.specs.Prelude.{ℕ, Bool, true, false, cond, not, ◌&&◌, ◌||◌, List, [], ◌∷◌, Some, None, Option, ◌==◌}
+use Rattle.pages.specs.Sites.{Bytes, Act, Idle, Asks, Says, Keeps, Looks, Opens, Request, Reply, Unreadable, Readable, Sites}
+use Rattle.pages.specs.Browser.{Window, World, nth, act_of, needs_of, served, Event, Opening, TurnOf}
 
 -- What is let out: what a page asks another site's server; what it says to a window of another site; that it opens a window; what a server lets another site's page see.
 pub data What : Type 0 where

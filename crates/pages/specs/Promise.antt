@@ -1,10 +1,10 @@
 -- THE PROMISE: of a site, others learn what it lets out, and nothing else. Each statement is a type, and a proof is a term of it.
-use Rattle.std.specs.Prelude.{◌≡◌, ℕ, zero, suc, Bool, true, false, cond, T, List, [], ◌∷◌, Some, None, Option, ◌==◌, ◌≢◌}
-use Rattle.pages.specs.Sites.{Bytes, Act, Idle, Told, Request, Reply, Unreadable, Served, Scripts, Sites}
-use Rattle.pages.specs.Browser.{World, Event}
+use Rattle.std.specs.Prelude.{◌≡◌, ℕ, zero, suc, false, cond, List, [], ◌∷◌, Some, None, Option, ◌==◌, ◌≢◌}
+use Rattle.pages.specs.Sites.{Bytes, Idle, Told, Request, Unreadable, Sites}
+use Rattle.pages.specs.Browser.{Event}
 use Rattle.pages.specs.Outs.{Out, Group, by_others, keep_only, let_out}
-use Rattle.pages.specs.Runs.{Run, Settings, Agenda, trace, step, after, begin, event_now, outs_now, request_now}
-use Rattle.pages.specs.Views.{View, view_of, Alike}
+use Rattle.pages.specs.Runs.{Run, Settings, trace, step, after, begin, event_now, outs_now, request_now}
+use Rattle.pages.specs.Views.{view_of, Alike}
 
 -- The same scripts and servers but for a group, and as many sites.
 pub record Others {S R : Type 0} (h : Group) (p q : Sites S R) : Type 0 where

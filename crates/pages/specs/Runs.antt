@@ -1,7 +1,7 @@
 -- Runs: what is still to be done, by the settings; one step; many; and what is seen of them.
 use Rattle.std.specs.Prelude.{ℕ, zero, suc, List, [], ◌∷◌, length, Some, None, Option}
 use Rattle.pages.specs.Sites.{Bytes, Request, Sites}
-use Rattle.pages.specs.Browser.{Part, World, Event, Opening, TurnOf, needs, happens}
+use Rattle.pages.specs.Browser.{World, Event, Opening, TurnOf, needs, happens}
 use Rattle.pages.specs.Outs.{Out, outs}
 
 -- n steps.

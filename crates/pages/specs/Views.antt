@@ -1,9 +1,9 @@
 -- What is of a site, and what an event does to it, seen from that site alone.
-use Rattle.std.specs.Prelude.{◌≡◌, ℕ, zero, suc, Bool, true, false, cond, List, [], ◌∷◌, ◌++◌, length, Some, None, Option, ◌==◌, nat_lt}
+use Rattle.std.specs.Prelude.{◌≡◌, ℕ, suc, false, cond, List, [], ◌∷◌, ◌++◌, length, Some, None, Option, ◌==◌, nat_lt}
 use Rattle.pages.specs.Sites.{Bytes, Act, Idle, Asks, Says, Keeps, Looks, Opens, Told, Kept, Request, Served, Sites}
-use Rattle.pages.specs.Browser.{Window, Word, Part, World, most_windows, nth, act_of, stepped, owns, hears, fresh, answered, token_after, needs_of, Event, Opening, TurnOf}
-use Rattle.pages.specs.Outs.{Group, is_of, reply_to}
-use Rattle.pages.specs.Runs.{Run, Agenda, trace, event_now}
+use Rattle.pages.specs.Browser.{Window, Part, World, most_windows, nth, act_of, stepped, owns, hears, fresh, answered, token_after, Event, Opening, TurnOf}
+use Rattle.pages.specs.Outs.{Group, is_of}
+use Rattle.pages.specs.Runs.{Run, event_now}
 
 -- Of which sites the windows are, by number: everybody may know.
 unfoldable pub row : {S : Type 0} → List (Window S) → List ℕ
