@@ -1,5 +1,5 @@
 // Askings: what a page is told of an answer, and what goes with the next request.
-use crate::pages::{
+use crate::page_cases::{
     ask, check_out, check_request, check_told, hi, open, quiet_turn, say, three_sites, with_window,
 };
 use std::alloc::Global;

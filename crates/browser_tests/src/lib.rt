@@ -7,6 +7,6 @@ mod asking;
 #[cfg(test)]
 mod opening;
 #[cfg(test)]
-mod pages;
+mod page_cases;
 #[cfg(test)]
 mod words;

@@ -1,5 +1,5 @@
 // Windows that are opened.
-use crate::pages::{
+use crate::page_cases::{
     check_out, check_request, check_told, finish_page, hi, open, opening, quiet_turn, three_sites,
     with_window,
 };

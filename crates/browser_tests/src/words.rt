@@ -1,5 +1,5 @@
 // Words from window to window, and what a site keeps.
-use crate::pages::{
+use crate::page_cases::{
     Deed, ask, check_out, check_told, hi, idle, keep, look, quiet_turn, say, three_sites, turn,
     with_window,
 };

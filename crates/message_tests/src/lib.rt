@@ -2,6 +2,6 @@
 #![tactic(auto)]
 
 #[cfg(test)]
-mod answers;
+mod answer_cases;
 #[cfg(test)]
-mod requests;
+mod request_cases;

@@ -91,7 +91,7 @@ pub data Fact : Type 0 where
   keeps : (site : ℕ) → Bytes → Fact
   served : (site count : ℕ) → Fact
   windows : List ℕ → Fact
-  let_out_lem : List (List Out) → Fact
+  lets_out : List (List Out) → Fact
   requests : List (Option Request) → Fact
   nothing : Fact
   same_with : Option Bytes → (window : ℕ) → Fact
@@ -131,7 +131,7 @@ Holds r (token s k) = (end r).part.tokens s ≡ k
 Holds r (keeps s d) = (end r).part.kept s ≡ d
 Holds r (served s n) = (end r).servers s ≡ n
 Holds r (windows ss) = row (end r).part.windows ≡ ss
-Holds r (let_out_lem os) = trace (step (sites_of r.acts r.answer)) (outs_now (sites_of r.acts r.answer)) (length r.turns) (world r.more r.guest r.turns) ≡ os
+Holds r (lets_out os) = trace (step (sites_of r.acts r.answer)) (outs_now (sites_of r.acts r.answer)) (length r.turns) (world r.more r.guest r.turns) ≡ os
 Holds r (requests qs) = trace (step (sites_of r.acts r.answer)) (request_now (sites_of r.acts r.answer)) (length r.turns) (world r.more r.guest r.turns) ≡ qs
 Holds r nothing = end r ≡ ends r (pages [] []) r.guest
 Holds r (same_with k i) = told_to (nth i (end r).part.windows) ≡ told_to (nth i (ends r r.acts k).part.windows)
@@ -148,17 +148,17 @@ case xs ys f is fs = record { acts = pages xs ys; answer = f; more = 0; guest = 
 abbrev pub cases : List Row
 cases =
     -- A. A page of a asks a's server: it is told the answer, and nothing is let out.
-    case (Asks a home (one 3) ∷ []) [] (answers nobody) (0 ∷ []) (told 0 (Answer a 200 (one 42)) ∷ let_out_lem ([] ∷ []) ∷ [])
+    case (Asks a home (one 3) ∷ []) [] (answers nobody) (0 ∷ []) (told 0 (Answer a 200 (one 42)) ∷ lets_out ([] ∷ []) ∷ [])
     -- B. A page of a asks b's server, which allows nobody: it is told that b barred it; b's token is the new one.
-    ∷ case (Asks b home (one 3) ∷ []) [] (answers nobody) (0 ∷ []) (told 0 (Barred b) ∷ token b (Some (one 21)) ∷ let_out_lem ((out a b (Asked home (one 3)) ∷ []) ∷ []) ∷ [])
+    ∷ case (Asks b home (one 3) ∷ []) [] (answers nobody) (0 ∷ []) (told 0 (Barred b) ∷ token b (Some (one 21)) ∷ lets_out ((out a b (Asked home (one 3)) ∷ []) ∷ []) ∷ [])
     -- C. The same, allowing a: it is told the answer, and b has let it out.
-    ∷ case (Asks b home (one 3) ∷ []) [] (answers (λ s. nat_eq s a)) (0 ∷ []) (told 0 (Answer b 200 (one 42)) ∷ let_out_lem ((out a b (Asked home (one 3)) ∷ out b a (Let 200 (one 42)) ∷ []) ∷ []) ∷ [])
+    ∷ case (Asks b home (one 3) ∷ []) [] (answers (λ s. nat_eq s a)) (0 ∷ []) (told 0 (Answer b 200 (one 42)) ∷ lets_out ((out a b (Asked home (one 3)) ∷ out b a (Let 200 (one 42)) ∷ []) ∷ []) ∷ [])
     -- D. A page of a says 5 to window 1, of b, naming c: nothing happens.
-    ∷ case (Says 1 c (one 5) ∷ []) [] (answers nobody) (0 ∷ []) (nothing ∷ told 1 Silence ∷ let_out_lem ([] ∷ []) ∷ [])
+    ∷ case (Says 1 c (one 5) ∷ []) [] (answers nobody) (0 ∷ []) (nothing ∷ told 1 Silence ∷ lets_out ([] ∷ []) ∷ [])
     -- E. A page of a says 5 to window 1, of b, naming b: b's page is told that a said 5.
-    ∷ case (Says 1 b (one 5) ∷ []) [] (answers nobody) (0 ∷ []) (told 1 (Heard a (one 5)) ∷ let_out_lem ((out a b (Said 1 (one 5)) ∷ []) ∷ []) ∷ [])
+    ∷ case (Says 1 b (one 5) ∷ []) [] (answers nobody) (0 ∷ []) (told 1 (Heard a (one 5)) ∷ lets_out ((out a b (Said 1 (one 5)) ∷ []) ∷ []) ∷ [])
     -- F. a keeps 7; a page of b looks: it is told what b kept.
-    ∷ case (Keeps (one 7) ∷ []) (Looks ∷ []) (answers nobody) (0 ∷ 1 ∷ []) (keeps a (one 7) ∷ told 1 (Kept (one 101)) ∷ let_out_lem ([] ∷ [] ∷ []) ∷ [])
+    ∷ case (Keeps (one 7) ∷ []) (Looks ∷ []) (answers nobody) (0 ∷ 1 ∷ []) (keeps a (one 7) ∷ told 1 (Kept (one 101)) ∷ lets_out ([] ∷ [] ∷ []) ∷ [])
     -- G. b's server answers a's asking by whether a guest is logged in at b, and bars it: a's page is told the same in both.
     ∷ case (Asks b home (one 3) ∷ []) [] greets (0 ∷ []) (told 0 (Barred b) ∷ same_with None 0 ∷ [])
     -- An answer and a word both wait: the answer is told first,
@@ -167,7 +167,7 @@ cases =
     ∷ case (Asks a home [] ∷ []) (Says 0 a (one 5) ∷ []) (answers nobody) (0 ∷ 1 ∷ 0 ∷ []) (told 0 (Heard b (one 5)) ∷ [])
     -- A page that is opened is told its path in its first turn, and not again; its server's token is taken, and its server was asked in nobody's name, with the old token.
     ∷ case (Opens b home ∷ []) [] (answers nobody) (0 ∷ [])
-    (told 2 (Begun home) ∷ windows (a ∷ b ∷ b ∷ []) ∷ waiting 2 [] ∷ token b (Some (one 21)) ∷ served b 1 ∷ let_out_lem ((out a b (Opened home) ∷ []) ∷ [])
+    (told 2 (Begun home) ∷ windows (a ∷ b ∷ b ∷ []) ∷ waiting 2 [] ∷ token b (Some (one 21)) ∷ served b 1 ∷ lets_out ((out a b (Opened home) ∷ []) ∷ [])
     ∷ requests (Some (record { site = b; from = None; token = Some (one 20); path = home; body = [] }) ∷ []) ∷ [])
     ∷ case (Opens b home ∷ []) [] (answers nobody) (0 ∷ 2 ∷ []) (told 2 Silence ∷ [])
     -- A 16th window is opened and a 17th is not: no server is asked for it, but it is let out.
@@ -177,7 +177,7 @@ cases =
       more = 13;
       guest = None;
       turns = 0 ∷ 0 ∷ [];
-      facts = windows ((a ∷ b ∷ replicate 13 c) ++ (b ∷ [])) ∷ served b 1 ∷ let_out_lem ((out a b (Opened home) ∷ []) ∷ (out a b (Opened home) ∷ []) ∷ []) ∷ [];
+      facts = windows ((a ∷ b ∷ replicate 13 c) ++ (b ∷ [])) ∷ served b 1 ∷ lets_out ((out a b (Opened home) ∷ []) ∷ (out a b (Opened home) ∷ []) ∷ []) ∷ [];
     }
     -- An eighth word is kept and a ninth dropped, and who said it is told nothing.
     ∷ case (Says 1 b (one 1) ∷ Says 1 b (one 2) ∷ Says 1 b (one 3) ∷ Says 1 b (one 4) ∷ Says 1 b (one 5) ∷ Says 1 b (one 6) ∷ Says 1 b (one 7) ∷ Says 1 b (one 8) ∷ Says 1 b (one 9) ∷ []) []
@@ -187,7 +187,7 @@ cases =
     ∷ case (Says 1 b (one 1) ∷ Says 1 b (one 2) ∷ []) [] (answers nobody) (0 ∷ 0 ∷ []) (told 1 (Heard a (one 1)) ∷ [])
     ∷ case (Says 1 b (one 1) ∷ Says 1 b (one 2) ∷ []) [] (answers nobody) (0 ∷ 0 ∷ 1 ∷ []) (told 1 (Heard a (one 2)) ∷ waiting 1 (word a 2 ∷ []) ∷ [])
     -- A look, a keep and a word to one's own site let nothing out; a keep tells the keeper nothing.
-    ∷ case (Looks ∷ Keeps (one 7) ∷ Says 0 a (one 5) ∷ []) [] (answers nobody) (0 ∷ 0 ∷ 0 ∷ []) (let_out_lem ([] ∷ [] ∷ [] ∷ []) ∷ keeps a (one 7) ∷ told 0 (Heard a (one 5)) ∷ [])
+    ∷ case (Looks ∷ Keeps (one 7) ∷ Says 0 a (one 5) ∷ []) [] (answers nobody) (0 ∷ 0 ∷ 0 ∷ []) (lets_out ([] ∷ [] ∷ [] ∷ []) ∷ keeps a (one 7) ∷ told 0 (Heard a (one 5)) ∷ [])
     ∷ case (Keeps (one 7) ∷ []) [] (answers nobody) (0 ∷ []) (told 0 Silence ∷ keeps b (one 101) ∷ [])
     -- An answer that can't be read is barred from its own site's page too, and its token isn't taken.
     ∷ case (Asks a home [] ∷ []) [] garbled (0 ∷ []) (told 0 (Barred a) ∷ token a (Some (one 10)) ∷ served a 1 ∷ [])
@@ -195,7 +195,7 @@ cases =
     ∷ case (Asks c home (one 3) ∷ []) [] greets (0 ∷ []) (requests (Some (record { site = c; from = Some a; token = None; path = home; body = one 3 }) ∷ []) ∷ token c None ∷ [])
     ∷ case (Asks b home [] ∷ []) [] greets (0 ∷ []) (token b (Some (one 20)) ∷ requests (Some (record { site = b; from = Some a; token = Some (one 20); path = home; body = [] }) ∷ []) ∷ [])
     -- An act that names a site without a number is nothing; so is a turn of a window that isn't there.
-    ∷ case (Asks 3 home [] ∷ Says 1 7 (one 5) ∷ Opens 9 home ∷ []) [] (answers nobody) (0 ∷ 0 ∷ 0 ∷ 5 ∷ []) (nothing ∷ let_out_lem ([] ∷ [] ∷ [] ∷ [] ∷ []) ∷ requests (None ∷ None ∷ None ∷ None ∷ []) ∷ [])
+    ∷ case (Asks 3 home [] ∷ Says 1 7 (one 5) ∷ Opens 9 home ∷ []) [] (answers nobody) (0 ∷ 0 ∷ 0 ∷ 5 ∷ []) (nothing ∷ lets_out ([] ∷ [] ∷ [] ∷ [] ∷ []) ∷ requests (None ∷ None ∷ None ∷ None ∷ []) ∷ [])
     ∷ []
 
 -- THE TABLE HOLDS: each fact of each row.

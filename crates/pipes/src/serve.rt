@@ -45,7 +45,7 @@ fn respond<R: Read, C: Carrier>(
     answer: &mut [u8],
 ) -> Result<usize, Lost>
     ensures within { Within result (length answer.new) }
-    ensures served { Served carries (length answer.old) (table_of table.now) servers.old servers.new }
+    ensures served { Served C.carries (length answer.old) (table_of table.now) servers.old servers.new }
 {
     let Some(len) = read_bytes(input, head.len as usize, request)? else {
         return Ok(0);
@@ -65,7 +65,7 @@ fn serve_one<R: Read, W: Write, C: Carrier>(
     request: &mut [u8],
     answer: &mut [u8],
 ) -> Result<(), Lost>
-    ensures { Served carries (length answer.old) (table_of table.now) servers.old servers.new }
+    ensures { Served C.carries (length answer.old) (table_of table.now) servers.old servers.new }
 {
     let mut line = [0u8; HEAD_ROOM];
     let n = read_line(input, &mut line)?;
@@ -90,7 +90,7 @@ pub fn serve<R: Read, W: Write, C: Carrier>(
     request: &mut [u8],
     answer: &mut [u8],
 ) -> Lost
-    ensures { Served carries (length answer.old) (table_of table.now) servers.old servers.new }
+    ensures { Served C.carries (length answer.old) (table_of table.now) servers.old servers.new }
 {
     for _ in 0..u64::MAX {
         if let Err(lost) = serve_one(input, output, table, servers, request, answer) {

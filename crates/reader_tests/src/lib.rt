@@ -2,6 +2,6 @@
 #![tactic(auto)]
 
 #[cfg(test)]
-mod addresses;
+mod address_cases;
 #[cfg(test)]
-mod settings;
+mod settings_cases;

@@ -22,10 +22,10 @@ returns c =
     let small : held.fault < 2 ^ 8 = search rules in
     record {
       puts =
-          puts_then _ _ _ (decimal c.args.n) _ (E ++ (S ++ (F ++ (outs_text (page ++ server) ++ N)))) _ _ _ refl c.number_at.ensures
+          puts_then _ _ _ (decimal c.args.n) _ (E ++ (S ++ (F ++ (outs_text (page ++ server) ++ N)))) _ _ _ refl c.number-at.ensures
           (puts_then _ _ _ E _ (S ++ (F ++ (outs_text (page ++ server) ++ N))) _ _ _ refl c.event-at.ensures.puts
           (puts_then _ _ _ S _ (F ++ (outs_text (page ++ server) ++ N)) _ _ _ refl c.window-at.ensures.puts
-          (puts_then _ _ _ F _ (outs_text (page ++ server) ++ N) _ _ _ outs c.number_at-2.ensures
+          (puts_then _ _ _ F _ (outs_text (page ++ server) ++ N) _ _ _ outs c.number-at-2.ensures
           (puts_then _ _ _ (outs_text page) _ (outs_text server ++ N) _ _ _ refl c.out-at.ensures.puts
           (puts_then _ _ _ (outs_text server) _ N _ _ _ refl c.out-at-2.ensures.puts c.fixed.ensures)))));
       range = record {

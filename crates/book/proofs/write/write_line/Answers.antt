@@ -13,7 +13,7 @@ returns c =
     let t = line_text n e in
     let range = c.line.ensures.range in
     let short = line_short n e c.ranges.n.fits range in
-    let room : 17000 ≤ length c.args.room.now = c.if-room-lt-LINE-ROOM.false in
+    let room : 17000 ≤ length c.args.room.now = c.if-room-lt-LINE_ROOM.false in
     let puts = c.line.ensures.puts (omega arith) in
     let fits = le-leb 17000 (length c.args.room.now) room in
     record {
