@@ -1,9 +1,8 @@
 -- What is due, by the parts of an agenda.
-use Rattle.std.proofs.Common.{◌≡◌, ℕ, zero, suc, ◌+◌, ◌-◌, ◌<◌, ◌≤◌, List, [], ◌∷◌, ◌++◌, map, length, get_or, drop, Some, None, vec_items, vec_len, Option, Vec, sym, refl, ap, ◌∙◌, add-one, arith}
+use Rattle.std.proofs.Common.{◌≡◌, ℕ, zero, suc, ◌+◌, ◌-◌, ◌<◌, ◌≤◌, List, [], ◌∷◌, map, length, get_or, drop, None, vec_items, vec_len, Option, Vec, sym, refl, ap, ◌∙◌, add-one, arith}
 use lib.ListN.{length-map}
 use Rattle.std.proofs.lemmas.List.{drop_all, drop_more, drop-map}
-use Rattle.pages.specs.Browser.{Event, TurnOf, Opening}
-use Rattle.pages.specs.Runs.{Open, Line, Turn, Rounds, Agenda, Due, count_from, due, due_by, round_due, line_due, turn_due}
+use Rattle.pages.specs.Runs.{Open, Line, Turn, Rounds, Agenda, Due, count_from, line_due, turn_due}
 
 -- An agenda of which only lines are left.
 abbrev pub only_lines : List Line → Agenda

@@ -1,15 +1,14 @@
 -- Settings that were read fit a plan.
-use Rattle.std.proofs.Common.{◌≡◌, ℕ, ◌<◌, ◌≤◌, Bool, true, ◌&&◌, eqb, ltb, leb, List, [], ◌∷◌, length, get_or, sym, refl, ap, ◌∙◌, arith}
+use Rattle.std.proofs.Common.{◌≡◌, ℕ, ◌<◌, ◌≤◌, Bool, true, ◌&&◌, eqb, ltb, leb, List, [], ◌∷◌, length, get_or, refl, arith}
 use Rattle.std.specs.List.{prefix_len}
 use Rattle.std.proofs.lemmas.Bool.{and_parts, and_from, lt-ltb, le-leb}
 use Rattle.octets.specs.declared.Class.TheVariants.{Visible}
 use Rattle.octets.specs.Classes.{has}
-use Rattle.addresses.specs.Address.{labels, site_ok, path_ok}
+use Rattle.addresses.specs.Address.{labels}
 use Rattle.settings.specs.Lines.{lines}
 use Rattle.settings.specs.Settings.{Config, Good, no_settings, read_settings}
 use Rattle.settings.proofs.Fine.{All, SiteOk, OpenOk, Fine, fine_lines}
 use Rattle.settings.proofs.Places.{nth-within}
-use Rattle.pages.specs.Sites.{Bytes}
 use Rattle.plans.specs.Fits.{each, is_site, opening_ok, AllSites, AllOpenings}
 
 fine : (s : List ℕ) (c : Config) → read_settings s ≡ Good c → Fine c

@@ -1,5 +1,5 @@
 -- What settings say is to be done, in the words of runs.
-use Rattle.std.specs.Prelude.{ℕ, List, map}
+use Rattle.std.specs.Prelude.{ℕ, map}
 use Rattle.settings.specs.declared.lines.TurnLine.{TurnLine}
 use Rattle.settings.specs.declared.lines.TurnLine.TheVariants as by
 use Rattle.settings.specs.Settings.{Config}

@@ -1,5 +1,5 @@
 -- One step more in a chain of steps.
-use Rattle.std.proofs.Common.{◌≡◌, ℕ, List, [], ◌∷◌, length, Some, None, Option, sym, refl, ap, ◌∙◌, subst}
+use Rattle.std.proofs.Common.{◌≡◌, ℕ, List, [], ◌∷◌, Some, None, Option, sym, refl, ap, ◌∙◌, subst}
 use Rattle.octets.proofs.Options.{none-some, some_same}
 use Rattle.pages.specs.Sites.{Bytes}
 use Rattle.pages.specs.Browser.{Event}

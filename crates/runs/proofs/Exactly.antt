@@ -1,24 +1,24 @@
 -- A chain of steps over servers in this process is the promise's run.
-use Rattle.std.proofs.Common.{◌≡◌, ℕ, zero, suc, Bool, true, List, [], ◌∷◌, ◌++◌, map, reverse, length, Some, None, Option, sym, refl, ap, ◌∙◌, subst, ⊎_elim}
+use Rattle.std.proofs.Common.{◌≡◌, ℕ, suc, Bool, true, List, [], ◌∷◌, ◌++◌, map, reverse, length, Some, None, Option, sym, refl, ap, ◌∙◌, subst, ⊎_elim}
 use mathlib.Core.List.{reverse-cons, reverse-reverse}
 use lib.ListN.{length-reverse}
 use Rattle.std.proofs.lemmas.List.{map_push}
 use Rattle.machine.specs.Script.{State}
 use Rattle.pages.specs.Sites.{Bytes, Request, Sites}
-use Rattle.pages.specs.Browser.{Part, World, Event, needs, happens}
-use Rattle.pages.specs.Outs.{Out, reply_to, outs}
-use Rattle.pages.specs.Runs.{Agenda, Run, Due, due_now, event_by, event_now, step, step_by, after, trace, iterate, outs_now, outs_on}
-use Rattle.pages.specs.Code.{turned, outs_with, moved, IsCode}
+use Rattle.pages.specs.Browser.{Part, World, Event, happens}
+use Rattle.pages.specs.Outs.{reply_to, outs}
+use Rattle.pages.specs.Runs.{Agenda, Run, due_now, event_by, event_now, step, step_by, after, trace, outs_now, outs_on}
+use Rattle.pages.specs.Code.{turned, outs_with, moved}
 use Rattle.pages.proofs.Term.{code_stands}
 use Rattle.windows.specs.Scripts.{by_machine}
 use Rattle.browser.specs.Whole.{reply_in}
-use Rattle.browser.specs.Wire.{SiteTable, request_bytes}
+use Rattle.browser.specs.Wire.{SiteTable}
 use Rattle.servers.specs.Answering.{Exact}
 use Rattle.book.specs.Records.{Entry}
-use Rattle.runs.specs.Events.{asked, sent, entry_for, part_after, Exchanged, Occurs}
+use Rattle.runs.specs.Events.{asked, entry_for, Exchanged, Occurs}
 use Rattle.runs.specs.Chains.{Reached, Moment, Step, Ran}
 use Rattle.runs.specs.Exact.{Serving, sites_with, answer_to, entry_on, entry_now, RanExactly}
-use Rattle.runs.proofs.Chaining.{reached_none, reached_more}
+use Rattle.runs.proofs.Chaining.{reached_more}
 use Rattle.runs.proofs.Moments.{iterate-end, trace-end, iterate-none, trace-none}
 
 module _ {R C B : Type 0} (serving : Serving R) (room answer : ℕ) (table : SiteTable) (states : C → ℕ → R) (N : B → Entry → B → Type 0) where

@@ -1,9 +1,8 @@
 -- The two halves of an event, an opening or a turn, are the event.
-use Rattle.std.proofs.Common.{◌≡◌, ℕ, Bool, true, false, cond, ltb, List, [], ◌∷◌, ◌++◌, length, Some, None, Option, sym, refl, ap, ◌∙◌}
+use Rattle.std.proofs.Common.{◌≡◌, ℕ, Bool, true, false, cond, ltb, [], ◌++◌, length, Some, None, sym, refl, ap, ◌∙◌}
 use Rattle.machine.specs.Script.{State}
 use Rattle.pages.specs.Sites.{Bytes, Request}
-use Rattle.pages.specs.Browser.{Part, most_windows, nth, needs_of, Event, Opening, TurnOf}
-use Rattle.pages.specs.Outs.{Out}
+use Rattle.pages.specs.Browser.{Part, most_windows, nth, Event, Opening, TurnOf}
 use Rattle.pages.specs.Code.{ended_by, outs_with}
 use Rattle.windows.specs.Scripts.{by_machine}
 use Rattle.browser.specs.Ends.{finished, server_outs_of}

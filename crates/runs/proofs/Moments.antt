@@ -1,5 +1,5 @@
 -- One step more at the end of a run, and of what is seen of it.
-use Rattle.std.proofs.Common.{◌≡◌, ℕ, zero, suc, List, [], ◌∷◌, ◌++◌, sym, refl, ap, ◌∙◌}
+use Rattle.std.proofs.Common.{◌≡◌, ℕ, zero, suc, [], ◌∷◌, ◌++◌, refl, ap}
 use Rattle.pages.specs.Runs.{iterate, trace}
 
 module _ {W : Type 0} (go : W → W) where

@@ -1,13 +1,11 @@
 -- A request in the room that it was written to.
-use Rattle.std.proofs.Common.{◌≡◌, ℕ, ◌≤◌, Bool, true, false, cond, leb, List, [], ◌∷◌, ◌++◌, length, take, drop, Some, None, Option, sym, refl, ap, ◌∙◌, subst, arith, length-append}
+use Rattle.std.proofs.Common.{◌≡◌, ℕ, ◌≤◌, Bool, true, false, cond, leb, [], ◌++◌, length, take, drop, Some, None, Option, sym, refl, ap, ◌∙◌, subst, arith, length-append}
 use lib.Seq.{take-append_seam}
 use Rattle.octets.proofs.Options.{none-some, some_same}
-use Rattle.octets.specs.Buffers.{written, count}
 use Rattle.requests.specs.Written.{request_text, can_write}
 use Rattle.pages.specs.Sites.{Bytes, Request}
 use Rattle.browser.specs.Ends.{request_written, request_count}
-use Rattle.browser.specs.Wire.{SiteTable, asking_of, request_bytes}
-use Rattle.servers.specs.Answering.{fitting}
+use Rattle.browser.specs.Wire.{SiteTable, asking_of}
 use Rattle.runs.specs.Events.{sent}
 
 -- So many bytes at the front of a room.

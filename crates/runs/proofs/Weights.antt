@@ -1,10 +1,10 @@
 -- How many events are left at most, with at most 16 windows.
-use Rattle.std.proofs.Common.{◌≡◌, ℕ, zero, suc, ◌+◌, ◌*◌, ◌<◌, ◌≤◌, List, [], ◌∷◌, length, Some, None, Option, sym, refl, ap, ◌∙◌, subst, arith}
+use Rattle.std.proofs.Common.{◌≡◌, ℕ, zero, suc, ◌+◌, ◌*◌, ◌<◌, ◌≤◌, List, [], ◌∷◌, length, Some, sym, refl, ap, ◌∙◌, subst, arith}
 use Rattle.octets.proofs.Options.{none-some, some_same}
 use Rattle.pages.specs.Browser.{Event}
 use Rattle.plans.specs.Agendas.{event_in, rest_of}
 use Rattle.runs.proofs.Chaining.{some-due}
-use Rattle.pages.specs.Runs.{Open, Line, Turn, Rounds, Agenda, Due, due, due_by, round_due, line_due, turn_due, count_from}
+use Rattle.pages.specs.Runs.{Open, Line, Turn, Rounds, Agenda, Due, due, due_by, line_due, count_from}
 
 abbrev pub line_weight : Line → ℕ
 line_weight (Turn i) = 1

@@ -2,8 +2,8 @@
 use Rattle.std.specs.Prelude.{◌≡◌, ℕ, List, [], length, Some, None, Option}
 use Rattle.std.specs.Option.{option_map}
 use Rattle.machine.specs.Script.{State}
-use Rattle.pages.specs.Sites.{Bytes, Scripts, Request}
-use Rattle.pages.specs.Browser.{Window, Part, nth, needs, Event, Opening, TurnOf}
+use Rattle.pages.specs.Sites.{Bytes, Request}
+use Rattle.pages.specs.Browser.{Part, nth, needs, Event, Opening, TurnOf}
 use Rattle.pages.specs.Outs.{Out}
 use Rattle.pages.specs.Code.{turned, outs_with}
 use Rattle.windows.specs.Scripts.{by_machine}

@@ -1,12 +1,11 @@
 -- A run over servers in this process, in the words of the promise.
-use Rattle.std.specs.Prelude.{◌≡◌, ℕ, List, [], ◌∷◌, map, reverse, length, Some, None, Option}
+use Rattle.std.specs.Prelude.{◌≡◌, ℕ, List, [], map, reverse, length, Some, None, Option}
 use Rattle.machine.specs.Script.{State}
 use Rattle.pages.specs.Sites.{Bytes, Request, Sites}
-use Rattle.pages.specs.Browser.{Part, World}
-use Rattle.pages.specs.Outs.{Out}
+use Rattle.pages.specs.Browser.{World}
 use Rattle.pages.specs.Runs.{Agenda, Run, Due, due_now, event_now, step, after, trace, outs_now}
 use Rattle.browser.specs.Parts.{nothing}
-use Rattle.browser.specs.Wire.{SiteTable, request_bytes, sites_of, on_bytes}
+use Rattle.browser.specs.Wire.{SiteTable, sites_of, on_bytes}
 use Rattle.servers.specs.Answering.{fitting}
 use Rattle.book.specs.Records.{Entry}
 use Rattle.runs.specs.Events.{asked, sent, entry_for}

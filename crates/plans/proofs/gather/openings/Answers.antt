@@ -1,4 +1,4 @@
-use Rattle.std.proofs.Common.{◌≡◌, ℕ, ◌<◌, ◌≤◌, true, cond, ◌&&◌, List, [], ◌∷◌, ◌++◌, map, length, take, Some, None, vec_items, Option, sym, refl, ap, ◌∙◌, arith}
+use Rattle.std.proofs.Common.{◌≡◌, ℕ, ◌≤◌, true, [], ◌∷◌, ◌++◌, map, length, take, Some, None, vec_items, Option, sym, ap, ◌∙◌, arith}
 use lib.ListN.{length-map}
 use Rattle.std.specs.List.{slice_get}
 use Rattle.std.proofs.lemmas.List.{take_all, map_push}
@@ -10,7 +10,7 @@ use Rattle.settings.specs.Views.{opens_in, open_of}
 use Rattle.settings.proofs.Places.{nth-none}
 use Rattle.pages.specs.Sites.{Bytes}
 use Rattle.plans.specs.Agendas.{opening_of}
-use Rattle.plans.specs.Fits.{AllOpenings, opening_ok, fitting}
+use Rattle.plans.specs.Fits.{opening_ok, fitting}
 use Rattle.plans.proofs.Gathering.{each_at, take_next}
 use Rattle.plans.proofs.gather.openings.Goals as goal
 

@@ -1,15 +1,13 @@
-use Rattle.std.proofs.Common.{◌≡◌, ℕ, ◌<◌, ◌≤◌, true, cond, ◌&&◌, ltb, List, [], ◌∷◌, ◌++◌, map, length, take, Some, None, sym, refl, ap, ◌∙◌, arith}
+use Rattle.std.proofs.Common.{◌≡◌, ◌≤◌, length, Some, sym, ap, ◌∙◌, arith}
 use lib.ListN.{length-map}
 use Rattle.std.specs.List.{slice_get}
 use Rattle.std.proofs.lemmas.List.{take_all}
-use Rattle.std.proofs.lemmas.Bool.{cond-true}
 use Rattle.addresses.specs.Views.{site_of}
 use Rattle.settings.specs.Tables.{items_of}
 use Rattle.settings.specs.Views.{sites_in}
-use Rattle.settings.proofs.Places.{nth-none, nth-within}
-use Rattle.storage.specs.Tables.{table_of, added}
-use Rattle.plans.specs.Fits.{AllSites, is_site}
-use Rattle.plans.proofs.Gathering.{each_at, take_next, sites-more}
+use Rattle.settings.proofs.Places.{nth-none}
+use Rattle.storage.specs.Tables.{added}
+use Rattle.plans.proofs.Gathering.{sites-more}
 use Rattle.plans.proofs.gather.table_of.Goals as goal
 
 pub returns-in_default : goal.returns-in_default

@@ -1,11 +1,9 @@
 -- The halves and the exchange between them, each with what the one before left.
-use Rattle.std.proofs.Common.{◌≡◌, ℕ, List, ◌++◌, length, take, Option, sym, refl, ap, ◌∙◌, subst}
+use Rattle.std.proofs.Common.{◌≡◌, ℕ, ◌++◌, length, take, Option, ap, ◌∙◌, subst}
 use Rattle.std.specs.Option.{option_map}
 use Rattle.machine.specs.Script.{State}
 use Rattle.pages.specs.Sites.{Bytes, Request}
 use Rattle.pages.specs.Browser.{Part, Event, begun}
-use Rattle.pages.specs.Outs.{Out}
-use Rattle.bounded.specs.Numbers.{number_of}
 use Rattle.book.specs.Records.{Entry, event_of}
 use Rattle.browser.specs.declared.pending.Pending.{Pending}
 use Rattle.browser.specs.declared.pending.Finished.{Finished}
@@ -13,7 +11,7 @@ use Rattle.browser.specs.Ends.{request_of, finished, server_outs_of, faults_of}
 use Rattle.browser.specs.Parts.{part_of, sites_in, scripts_in}
 use Rattle.browser.specs.Values.{outs_of}
 use Rattle.browser.specs.Wire.{SiteTable}
-use Rattle.runs.specs.Events.{site_in, begin_fault, page_outs_in, window_in, asked, sent, Exchanged, entry_for, part_after}
+use Rattle.runs.specs.Events.{site_in, begin_fault, page_outs_in, window_in, asked, sent, Exchanged, entry_for}
 use Rattle.runs.proofs.Halves.{ended_so, outs_are}
 use Rattle.runs.proofs.event.happen.Goals as goal
 

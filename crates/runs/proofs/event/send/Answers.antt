@@ -1,4 +1,4 @@
-use Rattle.std.proofs.Common.{◌≡◌, ℕ, List, length, sym, ap, subst, arith}
+use Rattle.std.proofs.Common.{ℕ, List, length, sym, subst, arith}
 use Rattle.browser.specs.Ends.{request_of}
 use Rattle.browser.specs.Parts.{sites_in}
 use Rattle.runs.specs.Events.{sent}

@@ -1,17 +1,16 @@
-use Rattle.std.proofs.Common.{◌≡◌, ℕ, List, [], ◌∷◌, map, length, Some, None, Option, sym, refl, ap, ◌∙◌, subst, inl}
+use Rattle.std.proofs.Common.{◌≡◌, List, [], ◌∷◌, map, length, Option, sym, refl, ap, ◌∙◌, subst, inl}
 use lib.ListN.{length-map}
 use Rattle.machine.specs.Script.{State}
 use Rattle.pages.specs.Browser.{Part, Event}
 use Rattle.pages.specs.Runs.{Agenda, Due, due}
 use Rattle.book.specs.Records.{Entry, entry_of, event_of}
-use Rattle.browser.specs.declared.browser.Browser.{Browser}
 use Rattle.browser.specs.Parts.{part_of, sites_in}
 use Rattle.browser.specs.Wire.{SiteTable}
 use Rattle.windows.specs.declared.window.Window.{Window}
 use Rattle.windows.specs.Windows.{window_of}
 use Rattle.plans.specs.Agendas.{agenda_of, event_in, rest_of}
 use Rattle.runs.specs.Events.{Occurs}
-use Rattle.runs.specs.Chains.{Reached, Step, Moment}
+use Rattle.runs.specs.Chains.{Moment}
 use Rattle.runs.proofs.Chaining.{reached_none, reached_more, step_so, none-due}
 use Rattle.runs.proofs.Weights.{next_falls}
 use Rattle.runs.proofs.run.run.Goals as goal

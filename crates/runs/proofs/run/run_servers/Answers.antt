@@ -1,24 +1,21 @@
-use Rattle.std.proofs.Common.{◌≡◌, ℕ, Bool, true, false, ◌⊎◌, List, map, reverse, length, Some, None, Option, sym, refl, ap, ◌∙◌, subst, ⊎_elim}
+use Rattle.std.proofs.Common.{ℕ, false, length, subst}
 use mathlib.Core.Bool.{false≢true}
 use Rattle.machine.specs.Script.{State}
-use Rattle.pages.specs.Sites.{Bytes, Sites}
-use Rattle.pages.specs.Browser.{Part, World}
-use Rattle.pages.specs.Runs.{Agenda, Run, Due, due, due_now, event_by, event_now}
-use Rattle.browser.specs.Parts.{part_of, sites_in, nothing}
+use Rattle.pages.specs.Browser.{Part}
+use Rattle.pages.specs.Runs.{Agenda}
+use Rattle.browser.specs.Parts.{part_of, nothing}
 use Rattle.browser.specs.Wire.{SiteTable}
 use Rattle.storage.specs.Tables.{table_of}
 use Rattle.plans.specs.Agendas.{agenda_of}
 use Rattle.servers.specs.declared.carrier.InProcess.{InProcess}
-use Rattle.book.specs.Records.{Entry}
-use Rattle.runs.specs.Chains.{Ran, Moment}
-use Rattle.runs.specs.Exact.{RanExactly, beginning}
+use Rattle.runs.specs.Chains.{Ran}
 use Rattle.runs.proofs.Exactly.{G, ran-exactly}
 use Rattle.runs.proofs.run.run_servers.Goals as goal
 
 pub returns : goal.returns
 returns g c =
     let table : SiteTable = table_of c.args.plan.table in
-    let made = c.in-ok-browser.ensures in
+    let made = c.in_ok-browser.ensures in
     let states : InProcess g.row.S.Denot → ℕ → g.S.Servers.State = λ x. g.S.Servers.states x.servers in
     let N = g.B.Book.notes in
     let room : ℕ = length c.args.request.now in
@@ -28,4 +25,4 @@ returns g c =
     let may = G g.S.Servers.serving room answer table states N in
     let end : SiteTable → Part State → Type 0 = λ t b. Ran may (λ x. false) N room t (record { part = b; agenda = agenda; carrier = first; book = c.args.book.now }) (part_of c.run-browser.result) c.run-browser.new.carrier c.run-browser.new.book in
     ran-exactly g.S.Servers.serving room answer table states N (λ x. false) (λ x e. false≢true e) nothing agenda first c.args.book.now _ _ _
-    (subst (λ z. end table z) made.part (subst (λ z. end z (part_of c.in-ok-browser.browser)) made.sites c.run-browser.ensures))
+    (subst (λ z. end table z) made.part (subst (λ z. end z (part_of c.in_ok-browser.browser)) made.sites c.run-browser.ensures))

@@ -1,5 +1,5 @@
-use Rattle.std.proofs.Common.{◌≡◌, ℕ, ◌+◌, ◌-◌, ◌<◌, ◌≤◌, List, [], ◌∷◌, map, length, drop, vec_items, Option, sym, refl, ap, ◌∙◌, arith}
-use Rattle.pages.specs.Runs.{Open, Line, Due, Agenda, due, due_by, count_from, turn_due}
+use Rattle.std.proofs.Common.{◌≡◌, ◌+◌, ◌-◌, List, [], ◌∷◌, map, drop, vec_items, Option, sym, ap, ◌∙◌, arith}
+use Rattle.pages.specs.Runs.{Open, Due, Agenda, due, due_by, count_from, turn_due}
 use Rattle.plans.specs.declared.agenda.Agenda.{Agenda as Here}
 use Rattle.plans.specs.declared.agenda.Opening.{Opening}
 use Rattle.plans.specs.Agendas.{agenda_of, lines_of, to_open, event_in, rest_of}

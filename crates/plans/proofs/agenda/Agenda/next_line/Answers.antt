@@ -1,9 +1,9 @@
-use Rattle.std.proofs.Common.{◌≡◌, ℕ, ◌-◌, ◌<◌, ◌≤◌, List, [], ◌∷◌, ◌++◌, map, length, drop, Some, None, vec_items, vec_len, Option, sym, refl, ap, ◌∙◌, ⊎_elim, arith}
+use Rattle.std.proofs.Common.{◌≡◌, ℕ, ◌-◌, ◌≤◌, [], ◌∷◌, ◌++◌, map, drop, None, vec_items, vec_len, Option, sym, ap, ◌∙◌, ⊎_elim, arith}
 use Rattle.settings.specs.Lines.{lines}
 use Rattle.settings.specs.Settings.{turns_of}
-use Rattle.pages.specs.Runs.{Line, Due, Agenda, line_due, turn_due, count_from, Turn, Rounds}
+use Rattle.pages.specs.Runs.{Due, Agenda, line_due, turn_due, count_from, Rounds}
 use Rattle.plans.specs.declared.agenda.Agenda.{Agenda as Here}
-use Rattle.plans.specs.Agendas.{agenda_of, lines_of, begun_line, to_open, event_in, rest_of}
+use Rattle.plans.specs.Agendas.{lines_of, begun_line, to_open, event_in, rest_of}
 use Rattle.plans.specs.Plans.{line_of}
 use Rattle.plans.proofs.Dues.{only_lines, all_open, none-due, turn_due_lem, round-due, no_rounds, no_windows}
 use Rattle.plans.proofs.agenda.Agenda.next_line.Goals as goal

@@ -1,10 +1,10 @@
-use Rattle.std.proofs.Common.{◌≡◌, ℕ, List, [], map, vec_items, sym, refl, ap, ◌∙◌}
+use Rattle.std.proofs.Common.{◌≡◌, ℕ, List, [], map, vec_items, sym, ap, ◌∙◌}
 use mathlib.Core.List.{map-map}
 use Rattle.settings.specs.Settings.{Config, Good, read_settings}
 use Rattle.settings.specs.Views.{settings_of}
-use Rattle.pages.specs.Runs.{Open, Agenda}
+use Rattle.pages.specs.Runs.{Agenda}
 use Rattle.plans.specs.Plans.{open_of, planned}
-use Rattle.plans.specs.Agendas.{opening_of, to_open, lines_of}
+use Rattle.plans.specs.Agendas.{opening_of, to_open}
 use Rattle.plans.proofs.Dues.{fresh}
 use Rattle.plans.proofs.Fine.{all-sites, all_openings}
 use Rattle.plans.proofs.plan.Plan.read.Goals as goal
