@@ -96,7 +96,7 @@ fn cut(rt: HostRuntime) {
         match read_address(front) {
             Ok(a) => {
                 assert!(rt; n > 22);
-                assert!(rt; a.host == b"a.example");
+                assert!(rt; a.host == b"a.example".as_slice());
                 assert!(rt; a.port == 8080);
                 assert!(rt; a.path.len() == n - 22);
             }

@@ -44,7 +44,7 @@ fn good(rt: HostRuntime) -> Result<(), Fail> {
     let Some(b) = s.sites.get(1) else {
         return Err(Fail::new("a site is missing"));
     };
-    assert!(rt; b.host == b"b.example");
+    assert!(rt; b.host == b"b.example".as_slice());
     assert!(rt; b.port == 8080);
     assert!(rt; s.sites.get(2).is_none());
     let mut turns = s.turns;

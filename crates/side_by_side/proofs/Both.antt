@@ -1,12 +1,11 @@
 -- One event on both sides.
-use Rattle.std.proofs.Common.{◌≡◌, ℕ, suc, List, length, Some, None, Option, sym, refl, ap, ◌∙◌, subst, subst₂}
+use Rattle.std.proofs.Common.{◌≡◌, ℕ, suc, List, length, Some, sym, ap, ◌∙◌, subst, subst₂}
 use Rattle.std.specs.Option.{option_map}
 use Rattle.machine.specs.Script.{State}
-use Rattle.pages.specs.Sites.{Bytes, Request, Sites}
-use Rattle.pages.specs.Browser.{Part, World, Event, needs}
+use Rattle.pages.specs.Sites.{Bytes, Sites}
+use Rattle.pages.specs.Browser.{Part, Event}
 use Rattle.pages.specs.Outs.{Out, Group, let_out, keep_only, by_others}
-use Rattle.pages.specs.Runs.{Agenda, Due, Run, due, due_now, event_now, event_by, step, after, outs_now, request_on, request_now}
-use Rattle.pages.specs.Views.{Alike}
+use Rattle.pages.specs.Runs.{Agenda, Run, due, step, after, outs_now, request_on, request_now}
 use Rattle.pages.specs.Promise.{AlikeRuns, to_others}
 use Rattle.pages.proofs.Same.{same_length}
 use Rattle.pages.proofs.Close.{close_alike}
@@ -19,9 +18,9 @@ use Rattle.runs.specs.Events.{asked, sent, Occurs}
 use Rattle.runs.specs.Chains.{Moment, Step}
 use Rattle.runs.specs.Exact.{Serving, sites_with}
 use Rattle.runs.proofs.Chaining.{step_so}
-use Rattle.runs.proofs.Exactly.{G, run_at, run_step, outs-step}
+use Rattle.runs.proofs.Exactly.{G, run_step, outs-step}
 use Rattle.side_by_side.specs.Leaks.{NoLeak}
-use Rattle.side_by_side.proofs.Sides.{SameEvent, same_event, Sides, alike_now, sides_more}
+use Rattle.side_by_side.proofs.Sides.{same_event, Sides, alike_now, sides_more}
 use Rattle.side_by_side.proofs.Wired.{on_wire, wired}
 
 -- No book is kept.

@@ -1,11 +1,9 @@
 -- Two runs after k events in which the group has let out the same.
-use Rattle.std.proofs.Common.{◌≡◌, ℕ, zero, suc, ◌+◌, List, [], ◌∷◌, ◌++◌, length, Option, sym, refl, ap, ◌∙◌, subst, subst₂, add-one}
-use Rattle.pages.specs.Sites.{Sites, Request}
-use Rattle.pages.specs.Browser.{World}
+use Rattle.std.proofs.Common.{◌≡◌, ℕ, suc, List, [], ◌∷◌, ◌++◌, sym, refl, ap, ◌∙◌, subst₂}
+use Rattle.pages.specs.Sites.{Sites}
 use Rattle.pages.specs.Outs.{Out, Group, let_out, keep_only, by_others}
-use Rattle.pages.specs.Runs.{Run, iterate, trace, step, after, outs_now, request_now, event_now}
-use Rattle.pages.specs.Views.{Alike}
-use Rattle.pages.specs.Promise.{Others, AlikeRuns, let_outs, to_others, SameForOthers}
+use Rattle.pages.specs.Runs.{Run, iterate, trace, step, after, outs_now, request_now}
+use Rattle.pages.specs.Promise.{Others, AlikeRuns, let_outs, to_others}
 use Rattle.pages.proofs.Whole.{nothing_else}
 use Rattle.runs.proofs.Moments.{iterate-end, trace-end, iterate-none, trace-none}
 use Rattle.side_by_side.specs.Verdicts.{SoFar}

@@ -1,11 +1,11 @@
 -- Answers that may not be seen.
-use Rattle.std.proofs.Common.{◌≡◌, ℕ, Bool, true, false, cond, ◌||◌, eqb, ltb, List, [], ◌∷◌, length, Some, None, Option, sym, refl, ap, ◌∙◌, subst, eq-eqb, ne_eqb}
+use Rattle.std.proofs.Common.{◌≡◌, ℕ, Bool, true, false, cond, ◌||◌, eqb, ltb, List, [], ◌∷◌, length, Some, None, Option, sym, refl, ap, ◌∙◌, ne_eqb}
 use Rattle.std.proofs.lemmas.Bool.{cond-false, or_parts}
 use Rattle.octets.proofs.Options.{none-some, some_same}
 use Rattle.answers.specs.declared.Kind.TheVariants.{Asked}
 use Rattle.machine.specs.Script.{State}
-use Rattle.pages.specs.Sites.{Bytes, Act, Idle, Asks, Says, Keeps, Looks, Opens, Told, Answer, Barred, Request, Reply, Unreadable, Readable, Scripts}
-use Rattle.pages.specs.Browser.{Window, Part, Event, Opening, TurnOf, most_windows, at, nth, change, owns, answered, may_see, token_after, act_of, begun, needs_by, needs_of, with_reply, replied_to}
+use Rattle.pages.specs.Sites.{Bytes, Act, Idle, Asks, Says, Keeps, Looks, Opens, Answer, Barred, Request, Reply, Unreadable, Readable, Scripts}
+use Rattle.pages.specs.Browser.{Window, Part, Opening, TurnOf, most_windows, nth, change, owns, answered, may_see, token_after, act_of, begun, needs_by, needs_of, with_reply, replied_to}
 use Rattle.pages.specs.Outs.{Out, out, Let, let_by, outs_by}
 use Rattle.pages.specs.Outs as outs
 use Rattle.pages.specs.Code.{ended_by, outs_with_of}

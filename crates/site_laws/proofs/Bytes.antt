@@ -1,12 +1,11 @@
 -- The promise's theorems, at the sites of a table.
-use Rattle.std.proofs.Common.{◌≡◌, ℕ, true, false, cond, List, [], sym, refl, ap, ◌∙◌}
+use Rattle.std.proofs.Common.{◌≡◌, false, [], refl, ap, ◌∙◌}
 use Rattle.std.proofs.lemmas.Bool.{cond-true}
 use Rattle.requests.specs.Requests.{read_request}
 use Rattle.requests.specs.Written.{request_text, can_write}
 use Rattle.requests.proofs.Back.{request_back}
 use Rattle.machine.specs.Script.{State}
-use Rattle.settings.specs.Settings.{Config}
-use Rattle.pages.specs.Sites.{Request, Reply, Served}
+use Rattle.pages.specs.Sites.{Request, Served}
 use Rattle.pages.specs.Outs.{Group}
 use Rattle.pages.specs.Promise.{Others}
 use Rattle.pages.proofs.Term.{code_stands}

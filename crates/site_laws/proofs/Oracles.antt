@@ -1,23 +1,23 @@
 -- A chain of events is a run with servers that give just its answers.
-use Rattle.std.proofs.Common.{◌≡◌, ℕ, zero, suc, Bool, true, false, cond, eqb, List, [], ◌∷◌, ◌++◌, map, reverse, length, Some, None, Option, sym, refl, ap, ◌∙◌, subst, eq-eqb, eqb-true}
+use Rattle.std.proofs.Common.{◌≡◌, ℕ, Bool, true, false, cond, eqb, List, [], ◌∷◌, ◌++◌, map, reverse, length, Some, None, Option, sym, refl, ap, ◌∙◌, eq-eqb, eqb-true}
 use mathlib.Core.List.{reverse-cons}
 use Rattle.std.proofs.lemmas.List.{map_push}
 use Rattle.std.proofs.lemmas.Bool.{cond-true}
 use Rattle.machine.specs.Script.{State}
 use Rattle.pages.specs.Sites.{Bytes, Request, Sites}
-use Rattle.pages.specs.Browser.{Part, World, Event, at, happens}
-use Rattle.pages.specs.Outs.{Out, reply_to, outs}
-use Rattle.pages.specs.Runs.{Agenda, Run, Due, due_now, event_by, step, step_by, after, trace, outs_now, outs_on}
+use Rattle.pages.specs.Browser.{World, Event, at, happens}
+use Rattle.pages.specs.Outs.{Out, reply_to}
+use Rattle.pages.specs.Runs.{Run, event_by, step, step_by, after, trace, outs_now, outs_on}
 use Rattle.pages.specs.Code.{turned, outs_with, moved}
 use Rattle.pages.proofs.Term.{code_stands}
 use Rattle.windows.specs.Scripts.{by_machine}
 use Rattle.browser.specs.Whole.{reply_in}
 use Rattle.browser.specs.Wire.{SiteTable, kind_for, reply_of}
 use Rattle.book.specs.Records.{Entry}
-use Rattle.runs.specs.Events.{asked, Occurs}
+use Rattle.runs.specs.Events.{asked}
 use Rattle.runs.specs.Chains.{Reached, Moment, Step}
 use Rattle.runs.proofs.Moments.{iterate-end, trace-end, iterate-none, trace-none}
-use Rattle.site_laws.specs.Oracle.{listed, listed_sites, run_with, ByServers, AnsweredBySome}
+use Rattle.site_laws.specs.Oracle.{listed, listed_sites, run_with, AnsweredBySome}
 
 module _ (table : SiteTable) where
   abbrev p : Sites State (List Bytes)

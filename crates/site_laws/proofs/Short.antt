@@ -1,12 +1,11 @@
 -- How long requests are.
-use Rattle.std.proofs.Common.{◌≡◌, ℕ, ◌+◌, ◌^◌, ◌<◌, ◌≤◌, Bool, true, false, cond, ◌&&◌, eqb, ltb, leb, List, [], ◌++◌, length, get_or, Some, None, codes, decimal, Option, sym, refl, ap, ◌∙◌, arith, length-append}
+use Rattle.std.proofs.Common.{◌≡◌, ℕ, ◌+◌, ◌≤◌, Bool, true, false, cond, ◌&&◌, eqb, ltb, leb, List, [], ◌++◌, length, Some, None, codes, decimal, Option, arith, length-append}
 use Rattle.std.proofs.lemmas.Fmt.{length-decimal-le}
 use Rattle.std.proofs.lemmas.Bool.{and_parts, leb-true}
 use Rattle.addresses.specs.Address.{labels, site_ok, path_ok}
-use Rattle.addresses.specs.Written.{port_text, site_text}
-use Rattle.lines.specs.Lines.{crlf, field_text, token_ok, token_fits, token_line, length_line}
-use Rattle.requests.specs.Requests.{Asking}
-use Rattle.requests.specs.Written.{origin_line, request_text, origin_fits, can_write}
+use Rattle.addresses.specs.Written.{port_text}
+use Rattle.lines.specs.Lines.{token_fits, token_line}
+use Rattle.requests.specs.Written.{origin_line, origin_fits}
 use Rattle.storage.proofs.Rows.{host_short}
 use Rattle.site_laws.specs.Laws.{RequestsFit}
 

@@ -2,7 +2,7 @@
 use Rattle.std.specs.Prelude.{◌≡◌, ℕ, List, [], ◌∷◌, map, reverse, length}
 use Rattle.machine.specs.Script.{State}
 use Rattle.pages.specs.Sites.{Bytes, Request, Sites}
-use Rattle.pages.specs.Browser.{Part, World}
+use Rattle.pages.specs.Browser.{Part}
 use Rattle.pages.specs.Runs.{Agenda, Run, step, after, trace, outs_now}
 use Rattle.browser.specs.Wire.{SiteTable, sites_of}
 use Rattle.book.specs.Records.{Entry}

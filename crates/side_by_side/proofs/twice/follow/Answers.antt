@@ -1,4 +1,4 @@
-use Rattle.std.proofs.Common.{◌≡◌, ℕ, suc, ◌+◌, ◌<◌, ◌≤◌, min, true, false, not, List, map, length, take, is_some, Some, None, Option, sym, refl, ap, ◌∙◌, subst, arith}
+use Rattle.std.proofs.Common.{◌≡◌, ℕ, suc, ◌+◌, min, List, map, length, take, Some, None, Option, sym, refl, ap, ◌∙◌, arith}
 use mathlib.Core.Bool.{false≢true}
 use lib.ListN.{length-map}
 use Rattle.std.specs.Option.{option_map}
@@ -6,11 +6,11 @@ use Rattle.machine.specs.Script.{State}
 use Rattle.bounded.specs.Numbers.{number_of}
 use Rattle.pages.specs.Sites.{Bytes, Sites}
 use Rattle.pages.specs.Browser.{Part, Event}
-use Rattle.pages.specs.Outs.{Group, let_out}
+use Rattle.pages.specs.Outs.{Group}
 use Rattle.pages.specs.Runs.{Agenda, Run, Due, due, event_by, event_now}
 use Rattle.pages.specs.Promise.{only, AlikeRuns}
 use Rattle.pages.specs.Views.{Alike}
-use Rattle.book.specs.Records.{Entry, entry_of, event_of}
+use Rattle.book.specs.Records.{entry_of, event_of}
 use Rattle.bounded.specs.declared.site.SiteNumber.{SiteNumber}
 use Rattle.book.specs.declared.record.Event.{Event as DueEvent}
 use Rattle.book.specs.declared.record.Record.{Record}
@@ -29,10 +29,9 @@ use Rattle.runs.specs.Exact.{sites_with}
 use Rattle.runs.proofs.Chaining.{none-due}
 use Rattle.runs.proofs.Exactly.{G}
 use Rattle.runs.proofs.Weights.{next_falls}
-use Rattle.side_by_side.specs.Leaks.{NoLeak}
 use Rattle.side_by_side.specs.Verdicts.{counted, SoFar}
-use Rattle.side_by_side.proofs.Sides.{Sides, sides_none, so_far, alike_now, sides_more}
-use Rattle.side_by_side.proofs.Both.{Unnoted, at, renamed, Events, both_events}
+use Rattle.side_by_side.proofs.Sides.{Sides, sides_none, so_far}
+use Rattle.side_by_side.proofs.Both.{Unnoted, renamed, Events, both_events}
 use Rattle.side_by_side.proofs.twice.follow.Given as given
 use Rattle.side_by_side.proofs.twice.follow.Goals as goal
 
