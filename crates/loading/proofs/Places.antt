@@ -1,5 +1,5 @@
 -- What stands at a place of a table of sites.
-use Rattle.std.proofs.Common.{◌≡◌, ℕ, zero, suc, ◌+◌, ◌<◌, ◌≤◌, cond, ltb, List, [], ◌∷◌, ◌++◌, map, length, take, Some, None, Option, sym, refl, ap, ◌∙◌, ⊎_elim, add-one, arith}
+use Rattle.std.proofs.Common.{◌≡◌, ℕ, zero, suc, ◌+◌, ◌<◌, ◌≤◌, ltb, List, [], ◌∷◌, ◌++◌, map, length, take, Some, None, refl, ap, ◌∙◌, ⊎_elim, add-one, arith}
 use Rattle.std.specs.List.{slice_get as placed}
 use Rattle.octets.proofs.Options.{none-some, some_same}
 use Rattle.std.proofs.lemmas.List.{length-map, length-take}

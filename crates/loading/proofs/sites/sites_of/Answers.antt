@@ -1,4 +1,4 @@
-use Rattle.std.proofs.Common.{◌≡◌, [], ◌∷◌, ◌++◌, map, vec_items, sym, ap, ◌∙◌, arith}
+use Rattle.std.proofs.Common.{[], ◌∷◌, ◌++◌, map, vec_items, sym, ap, ◌∙◌, arith}
 use Rattle.std.proofs.lemmas.List.{take_all, map_push}
 use Rattle.addresses.specs.Views.{site_of}
 use Rattle.storage.specs.Tables.{table_of}
@@ -10,7 +10,7 @@ returns-in_default c = absurd (some-before (table_of c.args.table.now) c.loop-n.
 
 pub loop-n-preserved : goal.loop-n-preserved
 loop-n-preserved c =
-    ap (map site_of) c.in-ok-push.ensures.items ∙ map_push site_of (vec_items c.loop-n.sites) c.in-Some.site
+    ap (map site_of) c.in_ok-push.ensures.items ∙ map_push site_of (vec_items c.loop-n.sites) c.in-Some.site
     ∙ ap (λ z. z ++ (site_of c.in-Some.site ∷ [])) c.loop-n.invariant
     ∙ sym (take_next (table_of c.args.table.now) c.loop-n.n (site_of c.in-Some.site) (sym c.in-Some.ensures))
 
