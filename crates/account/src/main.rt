@@ -5,10 +5,11 @@ use book::read::{Line, read_line};
 use book::record::Event;
 use bounded::site::SiteNumber;
 use browser::values::{Out, What};
+use loading::files::{read_file, read_plan};
 use loading::stop::{Stop, report};
-use plans::plan::Plan;
 use std::alloc::{AllocError, Global};
-use std::{env, fs, io};
+use std::process::ExitCode;
+use std::{env, io};
 use storage::table::Table;
 use words::scan::Scanner;
 
@@ -138,27 +139,15 @@ fn run(rt: &HostRuntime) -> Result<(), Stop> {
     let (Some(settings), Some(book), None) = (args.next(), args.next(), args.next()) else {
         return Err(Stop::Usage("account SETTINGS BOOK"));
     };
-    let text = match fs::read(rt, settings.as_str()) {
-        Ok(text) => text,
-        Err(why) => return Err(Stop::File {
-            path: settings,
-            why,
-        }),
-    };
-    let plan = match Plan::read(rt.alloc(), &text) {
-        Ok(plan) => plan,
-        Err(why) => return Err(Stop::Settings {
-            path: settings,
-            why,
-        }),
-    };
-    let lines = match fs::read(rt, book.as_str()) {
-        Ok(lines) => lines,
-        Err(why) => return Err(Stop::File { path: book, why }),
-    };
+    let text = read_file(rt, settings.as_str())?;
+    let plan = read_plan(rt.alloc(), settings.as_str(), &text)?;
+    let lines = read_file(rt, book.as_str())?;
     tell_all(rt, &plan.table, &lines)
 }
 
-fn main(rt: HostRuntime) -> Result<(), Stop> {
-    report(&rt, "account", run(&rt))
+fn main(rt: HostRuntime) -> ExitCode {
+    match report(&rt, "account", run(&rt)) {
+        Ok(()) => ExitCode::SUCCESS,
+        Err(_) => ExitCode::FAILURE,
+    }
 }

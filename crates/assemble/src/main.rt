@@ -6,6 +6,7 @@ use anyhow::anyhow;
 use assembler::assemble;
 use script_lines::{Expected, Operand};
 use std::io::{Read, Write};
+use std::process::ExitCode;
 
 fn operand_text(operand: Operand) -> &'static str {
     match operand {
@@ -32,14 +33,14 @@ fn expected_text(expected: Expected) -> &'static str {
     }
 }
 
-fn main(rt: HostRuntime) -> anyhow::Result<()> {
+fn main(rt: HostRuntime) -> anyhow::Result<ExitCode> {
     let mut text = Vec::new(rt.alloc());
     rt.stdin().read_to_end(&mut text)?;
     let mut page = [0; 16008];
     match assemble(&text, &mut page) {
         Ok(Some(size)) if size <= 16008 => {
             rt.stdout().write_all(&page[0..size])?;
-            Ok(())
+            Ok(ExitCode::SUCCESS)
         }
         Ok(_) => Err(anyhow!("no room")),
         Err(refusal) => {
@@ -47,7 +48,7 @@ fn main(rt: HostRuntime) -> anyhow::Result<()> {
             let column = refusal.column;
             let expected = expected_text(refusal.expected);
             eprintln!(rt; "line {line}, column {column}: expected {expected}")?;
-            Err(anyhow!("refused"))
+            Ok(ExitCode::FAILURE)
         }
     }
 }

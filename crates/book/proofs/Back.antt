@@ -1,6 +1,6 @@
 -- A line that was written is read back.
 use Rattle.std.proofs.Common.{◌≡◌, ℕ, suc, ◌+◌, ◌^◌, ◌<◌, ◌≤◌, leb, List, [], ◌∷◌, ◌++◌, length, Some, None, codes, decimal, Option, sym, refl, ap, ◌∙◌, ⊎_elim, append_assoc, append-nil, arith}
-use Rattle.std.specs.List.{prefix_len, AllByRecursion as All}
+use Rattle.std.specs.List.{prefix_len, AllByRecursion}
 use Rattle.std.proofs.lemmas.Bool.{cond-true, cond-false, cases_Bool, ne_eqb, leb-true, and_parts, or_left}
 use Rattle.std.proofs.lemmas.Fmt.{decimal_nonempty}
 use Rattle.octets.specs.Classes.{is_digit}
@@ -93,7 +93,7 @@ out_back o rest r stops =
     ∙ ap (λ q. and_then (and_then q (λ f. what_then f.0 f.1)) (λ o. Some (o.0 ∷ [], o.1))) (site_back [] o.from (w ++ rest) r.0 (what-starts o.to o.what rest))
     ∙ ap (λ q. and_then q (λ o. Some (o.0 ∷ [], o.1))) (what_back o.from o.to r.1 rest stops o.what r.2)
 
-outs_back : (os : List Out) (rest : List ℕ) → All OutIn os → length os ≤ 2 → outs_then (outs_text os ++ (10 ∷ rest)) ≡ Some (os, 10 ∷ rest)
+outs_back : (os : List Out) (rest : List ℕ) → AllByRecursion OutIn os → length os ≤ 2 → outs_then (outs_text os ++ (10 ∷ rest)) ≡ Some (os, 10 ∷ rest)
 outs_back [] rest r few = refl
 outs_back (o ∷ []) rest r few =
     ap (λ t. outs_then (t ++ (10 ∷ rest))) (append-nil (out_text o))

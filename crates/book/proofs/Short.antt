@@ -1,6 +1,6 @@
 -- No line is longer than its bound.
-use Rattle.std.proofs.Common.{ℕ, ◌+◌, ◌*◌, ◌^◌, ◌<◌, ◌≤◌, List, [], ◌∷◌, ◌++◌, length, Some, None, codes, decimal, Option, arith, length-append}
-use Rattle.std.specs.List.{AllByRecursion as All}
+use Rattle.std.proofs.Common.{ℕ, ◌*◌, ◌^◌, ◌<◌, ◌≤◌, List, [], ◌∷◌, ◌++◌, length, Some, None, codes, decimal, Option, arith, length-append}
+use Rattle.std.specs.List.{AllByRecursion}
 use Rattle.std.proofs.lemmas.Fmt.{length-decimal-le}
 use Rattle.pages.specs.Browser.{Event, Opening, TurnOf}
 use Rattle.pages.specs.Outs.{What, Asked, Said, Opened, Let, Out}
@@ -32,7 +32,7 @@ what_short t (Let c d) l r =
     let code : length (decimal c) ≤ 5 = length-decimal-le 5 c (omega arith) (omega (arith, r.0)) (omega (arith, r.0)) in
     omega (arith, length-append (decimal t) ((codes " " ++ decimal c) ++ bytes_text d), length-append (decimal c) (bytes_text d), length_hex d, site_digits t l, r.1.0)
 
-outs_short : (os : List Out) → All OutIn os → length (outs_text os) ≤ 8213 * length os
+outs_short : (os : List Out) → AllByRecursion OutIn os → length (outs_text os) ≤ 8213 * length os
 outs_short [] r = omega arith
 outs_short (o ∷ os) r =
     let w = what_text o.to o.what in

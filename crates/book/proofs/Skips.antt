@@ -1,5 +1,5 @@
 -- Words that do not stand where they are looked for.
-use Rattle.std.proofs.Common.{◌≡◌, ℕ, true, false, List, is_some, Some, None, Option, sym, refl, ap, ◌∙◌}
+use Rattle.std.proofs.Common.{◌≡◌, ℕ, false, List, is_some, Some, None, Option, sym, refl, ap, ◌∙◌}
 use Rattle.std.proofs.lemmas.Bool.{true≢false}
 use Rattle.octets.specs.Fronts.{after}
 use Rattle.words.specs.Scans.{rest_or}

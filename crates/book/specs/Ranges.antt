@@ -1,6 +1,6 @@
 -- The ranges of what the book holds.
 use Rattle.std.specs.Prelude.{ℕ, ◌^◌, ◌<◌, ◌≤◌, List, length, Some, None, Option}
-use Rattle.std.specs.List.{AllByRecursion as All}
+use Rattle.std.specs.List.{AllByRecursion}
 use Rattle.pages.specs.Browser.{Event, Opening, TurnOf}
 use Rattle.pages.specs.Outs.{What, Asked, Said, Opened, Let, Out}
 use Rattle.words.specs.Hex.{AllBytes}
@@ -36,5 +36,5 @@ pub record InRange (e : Entry) : Type 0 where
   pub event : EventIn e.event
   pub site : SiteIn e.site
   pub fault : e.fault < 2 ^ 8
-  pub outs : All OutIn e.outs
+  pub outs : AllByRecursion OutIn e.outs
   pub few : length e.outs ≤ 2

@@ -2,7 +2,7 @@
 use Rattle.std.specs.Prelude.{ℕ, List, [], ◌∷◌, ◌++◌, Some, None, codes, Option}
 use Rattle.octets.specs.Fronts.{and_then, after}
 use Rattle.pages.specs.Browser.{Event, Opening, TurnOf}
-use Rattle.pages.specs.Outs.{What, Asked, Said, Opened, Let, Out, out}
+use Rattle.pages.specs.Outs.{Asked, Said, Opened, Let, Out, out}
 use Rattle.words.specs.Numerals.{number_after}
 use Rattle.words.specs.Hex.{bytes_after}
 use Rattle.book.specs.Records.{Entry}

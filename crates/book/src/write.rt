@@ -1,7 +1,7 @@
 // Lines of the book, written.
 ghost use Rattle.std.specs.Prelude.{◌≡◌, ℕ, ◌≤◌, List, ◌++◌, length, drop, IfSome, if◌then◌else◌, Some, None, decimal, OnSome, nat_le};
 ghost use Rattle.std.specs.Option.{option_map};
-ghost use Rattle.std.specs.List.{AllByRecursion as All};
+ghost use Rattle.std.specs.List.{AllByRecursion};
 ghost use Rattle.bounded.specs.Numbers.{number_of};
 ghost use Rattle.browser.specs.Values.{what_of, outs_of};
 ghost use Rattle.words.specs.Hex.{AllBytes};
@@ -100,7 +100,7 @@ fn what(room: &mut [u8], at: usize, to: SiteNumber, is: &What) -> usize
 // What is let out, if anything is.
 fn out(room: &mut [u8], at: usize, o: &Option<Out>) -> usize
     ensures puts { Puts at (outs_text (outs_of o.now)) room.old result room.new }
-    ensures range { All OutIn (outs_of o.now) }
+    ensures range { AllByRecursion OutIn (outs_of o.now) }
 {
     match o {
         Some(o) => {

@@ -144,7 +144,7 @@ fn one_by_one(rt: HostRuntime) -> Result<(), Fail> {
         assert_eq!(rt; line.number, n);
     }
     assert!(rt; read_line(&mut scanner).is_none());
-    assert!(rt; scanner.rest == b"2 turn\n3 turn 0 0 0\n");
+    assert!(rt; scanner.rest == b"2 turn\n3 turn 0 0 0\n".as_slice());
     Ok(())
 }
 
@@ -185,7 +185,9 @@ fn forged(rt: HostRuntime) -> Result<(), Fail> {
         return Err(Fail::new("there is room for every line"));
     };
     assert!(rt; n <= LINE_ROOM);
-    assert!(rt; &room[0..n] == b"14 turn 2 1 0 | 1 says 0 4 x0a39207475726e2030203020300a\n");
+    assert!(rt;
+        &room[0..n] == b"14 turn 2 1 0 | 1 says 0 4 x0a39207475726e2030203020300a\n".as_slice()
+    );
     Ok(())
 }
 

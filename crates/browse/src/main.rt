@@ -1,10 +1,11 @@
 // browse SETTINGS BOOK: does what the settings say. Requests go framed to standard output, answers come framed from
 // standard input, and a line for each event goes to the file BOOK. An input that ends is no fault: what is asked after it
-// has no answer.
+// has no answer. Without arguments it says how it is called, and its limits.
 #![tactic(auto)]
 
 use loading::files::{read_file, read_plan};
 use loading::stop::{Stop, report};
+use pages::limits;
 use pipes::carrier::Pipes;
 use pipes::fault::Lost;
 use sessions::session::browse;
@@ -13,11 +14,24 @@ use sessions::written::WrittenBook;
 use std::env;
 use std::fs::File;
 use std::io::{BufReader, BufWriter, Write};
+use std::process::ExitCode;
+
+// How it is called, and the limits of the browser.
+fn say_limits(rt: &HostRuntime) -> Result<(), Stop> {
+    let windows = limits::most_windows();
+    let words = limits::most_words();
+    println!(rt; "usage: browse SETTINGS BOOK")?;
+    println!(rt; "at most {windows} windows, and {words} words waiting for each")?;
+    Ok(())
+}
 
 fn run(rt: &HostRuntime) -> Result<(), Stop> {
     let mut args = env::args(rt)?;
     let _ = args.next();
-    let (Some(path), Some(book_path), None) = (args.next(), args.next(), args.next()) else {
+    let Some(path) = args.next() else {
+        return say_limits(rt);
+    };
+    let (Some(book_path), None) = (args.next(), args.next()) else {
         return Err(Stop::Usage("browse SETTINGS BOOK"));
     };
     let text = read_file(rt, path.as_str())?;
@@ -32,12 +46,12 @@ fn run(rt: &HostRuntime) -> Result<(), Stop> {
         }
     };
     let mut book = WrittenBook::new(Output {
-        stream: BufWriter::new(file),
+        stream: BufWriter::new(rt.alloc(), file)?,
     });
     let mut pipes = Pipes {
         table: plan.table,
-        input: BufReader::new(rt.stdin()),
-        output: BufWriter::new(rt.stdout()),
+        input: BufReader::new(rt.alloc(), rt.stdin())?,
+        output: BufWriter::new(rt.alloc(), rt.stdout())?,
         lost: None,
     };
     let _ = browse(rt.alloc(), plan, &mut pipes, &mut book)?;
@@ -56,6 +70,9 @@ fn run(rt: &HostRuntime) -> Result<(), Stop> {
     }
 }
 
-fn main(rt: HostRuntime) -> Result<(), Stop> {
-    report(&rt, "browse", run(&rt))
+fn main(rt: HostRuntime) -> ExitCode {
+    match report(&rt, "browse", run(&rt)) {
+        Ok(()) => ExitCode::SUCCESS,
+        Err(_) => ExitCode::FAILURE,
+    }
 }

@@ -6,6 +6,7 @@ use anyhow::anyhow;
 use disassembler::disassemble;
 use scripts::Unreadable;
 use std::io::{Read, Write};
+use std::process::ExitCode;
 
 fn fault_text(fault: Unreadable) -> &'static str {
     match fault {
@@ -17,20 +18,20 @@ fn fault_text(fault: Unreadable) -> &'static str {
     }
 }
 
-fn main(rt: HostRuntime) -> anyhow::Result<()> {
+fn main(rt: HostRuntime) -> anyhow::Result<ExitCode> {
     let mut page = Vec::new(rt.alloc());
     rt.stdin().read_to_end(&mut page)?;
     let mut text = [0; 80000];
     match disassemble(&page, &mut text) {
         Ok(Some(size)) if size <= 80000 => {
             rt.stdout().write_all(&text[0..size])?;
-            Ok(())
+            Ok(ExitCode::SUCCESS)
         }
         Ok(_) => Err(anyhow!("no room")),
         Err(fault) => {
             let why = fault_text(fault);
             eprintln!(rt; "not a page: {why}")?;
-            Err(anyhow!("refused"))
+            Ok(ExitCode::FAILURE)
         }
     }
 }

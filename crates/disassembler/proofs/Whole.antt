@@ -1,6 +1,6 @@
 -- The text of a page is assembled to that page.
 use Rattle.std.proofs.Common.{◌≡◌, ℕ, zero, suc, ◌+◌, ◌*◌, ◌/◌, ◌%◌, ◌<◌, ◌≤◌, Bool, true, false, cond, ◌&&◌, eqb, leb, List, [], ◌∷◌, ◌++◌, length, get_or, take, drop, Some, Ok, Err, Option, Result, sym, refl, ap, ◌∙◌, ⊎_elim, append_assoc, append-nil, arith, length-append}
-use Rattle.std.specs.List.{prefix_len, AllByRecursion as All}
+use Rattle.std.specs.List.{prefix_len, AllByRecursion}
 use Rattle.std.proofs.ByRecursion.{All-get_or, All-from_get_or, All-take, All-drop}
 use Rattle.std.proofs.lemmas.List.{take_all, take-append-drop, length-take-le, length-drop}
 use Rattle.std.proofs.lemmas.Bool.{cond-true, cond-false, cases_Bool, eqb-true, and_parts, le-leb, not-true}
@@ -72,7 +72,7 @@ row_known bs s e = let h = step_known _ _ _ _ _ s e in record { kind = h.0; call
 abbrev pub Byte : ℕ → Type 0
 Byte b = b < 256
 
-row-fitting : (bs : List ℕ) → length bs ≡ 8 → All Byte bs → Fitting (row_in bs)
+row-fitting : (bs : List ℕ) → length bs ≡ 8 → AllByRecursion Byte bs → Fitting (row_in bs)
 row-fitting bs size all =
     let at : (i : ℕ) → i < 8 → get_or bs i 0 < 256 = λ i h. All-get_or Byte bs i 0 (omega arith) all in
     record {
@@ -95,7 +95,7 @@ eight (p ∷ q ∷ r ∷ s ∷ t ∷ u ∷ []) h = absurd (omega arith)
 eight (p ∷ q ∷ r ∷ s ∷ t ∷ u ∷ v ∷ []) h = absurd (omega arith)
 eight (p ∷ q ∷ r ∷ s ∷ t ∷ u ∷ v ∷ w ∷ bs) h = refl
 
-row-bytes : (bs : List ℕ) → length bs ≡ 8 → All Byte bs → row_bytes (row_in bs) ≡ bs
+row-bytes : (bs : List ℕ) → length bs ≡ 8 → AllByRecursion Byte bs → row_bytes (row_in bs) ≡ bs
 row-bytes bs size all =
     let at : (i : ℕ) → i < 8 → get_or bs i 0 < 256 = λ i h. All-get_or Byte bs i 0 (omega arith) all in
     let w = get_or bs 4 0 in
@@ -114,7 +114,7 @@ row-bytes bs size all =
     ∙ sym (eight bs (omega arith))
     ∙ take_all 8 bs (omega arith)
 
-head_bytes : (bs : List ℕ) (n : ℕ) → Head bs n → All Byte bs → head_of n ≡ take 8 bs
+head_bytes : (bs : List ℕ) (n : ℕ) → Head bs n → AllByRecursion Byte bs → head_of n ≡ take 8 bs
 head_bytes bs n head all =
     let page = and_parts (leb 6 (length bs)) _ head.page in
     let p = and_parts (eqb (get_or bs 0 0) 80 && eqb (get_or bs 1 0) 65) _ page.1 in
@@ -146,7 +146,7 @@ abbrev lines_of : ℕ → List ℕ → List (List ℕ)
 lines_of zero bs = []
 lines_of (suc n) bs = line_then (row_in (take 8 bs)) [] ∷ lines_of n (drop 8 bs)
 
-rows_lines : (n : ℕ) (bs : List ℕ) → length bs ≡ n * 8 → All Byte bs → lines (rows_text n bs) ≡ lines_of n bs
+rows_lines : (n : ℕ) (bs : List ℕ) → length bs ≡ n * 8 → AllByRecursion Byte bs → lines (rows_text n bs) ≡ lines_of n bs
 unfolding rows_text
 rows_lines zero bs size all = refl
 rows_lines (suc n) bs size all =
@@ -163,7 +163,7 @@ no_bytes : (bs : List ℕ) → length bs ≡ 0 → bs ≡ []
 no_bytes [] e = refl
 no_bytes (b ∷ bs) e = absurd (omega arith)
 
-rows_from : (text : List ℕ) (n k : ℕ) (done bs : List ℕ) (steps : List Step) → length bs ≡ n * 8 → length done + n * 8 ≤ 16000 → All Byte bs → steps_in n bs ≡ Ok steps → lines_from text k done (lines_of n bs) ≡ Ok (done ++ bs)
+rows_from : (text : List ℕ) (n k : ℕ) (done bs : List ℕ) (steps : List Step) → length bs ≡ n * 8 → length done + n * 8 ≤ 16000 → AllByRecursion Byte bs → steps_in n bs ≡ Ok steps → lines_from text k done (lines_of n bs) ≡ Ok (done ++ bs)
 rows_from text zero k done bs steps size room all e = ap Ok (sym (ap (λ t. done ++ t) (no_bytes bs (omega arith)) ∙ append-nil done))
 rows_from text (suc n) k done bs steps size room all e =
     let first = take 8 bs in
@@ -184,7 +184,7 @@ rows_from text (suc n) k done bs steps size room all e =
     ∙ ap Ok (append_assoc done first (drop 8 bs) ∙ ap (λ t. done ++ t) (take-append-drop 8 bs))
 
 -- the text of a page is assembled to that page
-pub assembles_back : (bs : List ℕ) (steps : List Step) → page_in bs ≡ Ok steps → All Byte bs → assembled (rows_text (length steps) (drop 8 bs)) ≡ Ok bs
+pub assembles_back : (bs : List ℕ) (steps : List Step) → page_in bs ≡ Ok steps → AllByRecursion Byte bs → assembled (rows_text (length steps) (drop 8 bs)) ≡ Ok bs
 assembles_back bs steps e all =
     let n = length steps in
     let body = drop 8 bs in

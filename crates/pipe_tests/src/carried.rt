@@ -27,7 +27,7 @@ fn good(rt: HostRuntime) {
     assert!(rt; !pipes.is_broken());
     assert!(rt;
         pipes.output.as_slice()
-            == b"request https://bank.example 3\na\nbrequest https://shop.example:8443 0\nrequest https://bank.example 1\ncrequest https://shop.example:8443 1\nd"
+            == b"request https://bank.example 3\na\nbrequest https://shop.example:8443 0\nrequest https://bank.example 1\ncrequest https://shop.example:8443 1\nd".as_slice()
     );
 }
 
@@ -48,7 +48,7 @@ fn check_broken(rt: &(impl Abort + AllocGlobal), answers: &[u8], fault: Fault) {
     assert_eq!(rt; pipes.exchange(1, b"c", &mut room), 0);
     assert_eq!(rt; pipes.lost, Some(Lost::Broken(fault)));
     assert_eq!(rt; pipes.input.len(), left);
-    assert!(rt; pipes.output.as_slice() == b"request https://bank.example 1\na");
+    assert!(rt; pipes.output.as_slice() == b"request https://bank.example 1\na".as_slice());
 }
 
 #[test]
@@ -93,7 +93,7 @@ fn check_ended(rt: &(impl Abort + AllocGlobal), answers: &[u8]) {
     assert_eq!(rt; pipes.lost, Some(Lost::Ended));
     assert!(rt; !pipes.is_broken());
     assert_eq!(rt; pipes.exchange(1, b"b", &mut room), 0);
-    assert!(rt; pipes.output.as_slice() == b"request https://shop.example:8443 1\na");
+    assert!(rt; pipes.output.as_slice() == b"request https://shop.example:8443 1\na".as_slice());
 }
 
 // The end of the input is no fault, wherever it comes; also where a frame that is too long is passed over.

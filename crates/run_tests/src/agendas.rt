@@ -7,6 +7,7 @@ use runs::notes::MemoryBook;
 use runs::run::run_servers;
 use script_servers::family::ScriptServers;
 use settings::Fault;
+use std::process::Abort;
 use std::test::*;
 
 // The number of the window whose turn it was, and 99 for an opening.
@@ -41,15 +42,15 @@ fn book_of(rt: HostRuntime, text: &'static [u8]) -> Result<MemoryBook, Fail> {
 }
 
 // The book holds turns of these windows, which are of these sites.
-fn holds(book: &MemoryBook, windows: &[u32], sites: &[u8]) -> Result<(), Fail> {
-    assert!(!book.missed());
+fn holds(rt: &impl Abort, book: &MemoryBook, windows: &[u32], sites: &[u8]) -> Result<(), Fail> {
+    assert!(rt; !book.missed());
     let records = book.records();
-    assert_eq!(records.len(), windows.len());
-    assert_eq!(records.len(), sites.len());
+    assert_eq!(rt; records.len(), windows.len());
+    assert_eq!(rt; records.len(), sites.len());
     for (i, record) in records.iter().enumerate() {
         if i < windows.len() && i < sites.len() {
-            assert_eq!(window_of(record), windows[i]);
-            assert_eq!(site_of(record), sites[i]);
+            assert_eq!(rt; window_of(record), windows[i]);
+            assert_eq!(rt; site_of(record), sites[i]);
         }
     }
     Ok(())
@@ -57,7 +58,7 @@ fn holds(book: &MemoryBook, windows: &[u32], sites: &[u8]) -> Result<(), Fail> {
 
 fn gives(rt: HostRuntime, text: &'static [u8], windows: &[u32], sites: &[u8]) -> Result<(), Fail> {
     let book = book_of(rt, text)?;
-    holds(&book, windows, sites)
+    holds(&rt, &book, windows, sites)
 }
 
 #[test]

@@ -3,7 +3,7 @@ use Rattle.std.proofs.Common.{◌≡◌, ℕ, ◌+◌, ◌*◌, ◌<◌, ◌≤�
 use borrow.Author.Tests.{lt-leb}
 use borrow.Rule.Slice.PartMut.{put_mid, post_of}
 use Rattle.std.proofs.lemmas.Bool.{cond-true, cond-false}
-use Rattle.std.specs.List.{flat_map, AllByRecursion as All}
+use Rattle.std.specs.List.{flat_map, AllByRecursion}
 use Rattle.std.proofs.lemmas.List.{take_at, drop_at, drop-drop, length-append, take_more, flat_map_more}
 use Rattle.scripts.specs.declared.Step.{Step}
 use Rattle.scripts.specs.declared.Step.TheVariants.{Constant, Move, Sum, Product, Equal, Less, Jump, JumpIf, Load, Store, Wait}
@@ -42,7 +42,7 @@ length_steps (step ∷ steps) =
     length-append (step_bytes step) (flat_map step_bytes steps) ∙ omega (arith, length-step step, length_steps steps)
 
 -- steps that can be read one by one can be read in a row
-pub back_all : (steps : List Step) → All ReadBack steps → steps_in (length steps) (flat_map step_bytes steps) ≡ Ok steps
+pub back_all : (steps : List Step) → AllByRecursion ReadBack steps → steps_in (length steps) (flat_map step_bytes steps) ≡ Ok steps
 unfolding steps_in
 back_all [] all = refl
 back_all (step ∷ steps) all =

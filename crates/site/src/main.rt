@@ -11,6 +11,7 @@ use pipes::serve::serve;
 use servers::carrier::InProcess;
 use std::env;
 use std::io::{BufReader, BufWriter};
+use std::process::ExitCode;
 
 fn run(rt: &HostRuntime) -> Result<(), Stop> {
     let mut args = env::args(rt)?;
@@ -23,8 +24,8 @@ fn run(rt: &HostRuntime) -> Result<(), Stop> {
     let sites = sites_of(rt.alloc(), &plan.table)?;
     let servers = load(rt, folder.as_str(), sites.as_slice())?;
     let mut carrier = InProcess { servers };
-    let mut input = BufReader::new(rt.stdin());
-    let mut output = BufWriter::new(rt.stdout());
+    let mut input = BufReader::new(rt.alloc(), rt.stdin())?;
+    let mut output = BufWriter::new(rt.alloc(), rt.stdout())?;
     let mut request = [0u8; 4096];
     let mut answer = [0u8; 32768];
     match serve(
@@ -40,6 +41,9 @@ fn run(rt: &HostRuntime) -> Result<(), Stop> {
     }
 }
 
-fn main(rt: HostRuntime) -> Result<(), Stop> {
-    report(&rt, "site", run(&rt))
+fn main(rt: HostRuntime) -> ExitCode {
+    match report(&rt, "site", run(&rt)) {
+        Ok(()) => ExitCode::SUCCESS,
+        Err(_) => ExitCode::FAILURE,
+    }
 }

@@ -86,6 +86,9 @@ fn run(rt: &HostRuntime) -> Result<(), Stop> {
     Ok(())
 }
 
-fn main(rt: HostRuntime) -> Result<(), Stop> {
-    report(&rt, "twice", run(&rt))
+fn main(rt: HostRuntime) -> ExitCode {
+    match report(&rt, "twice", run(&rt)) {
+        Ok(()) => ExitCode::SUCCESS,
+        Err(_) => ExitCode::FAILURE,
+    }
 }

@@ -1,6 +1,6 @@
 -- Bytes in hex, behind a fixed text.
 use Rattle.std.specs.Prelude.{ℕ, ◌+◌, ◌-◌, ◌*◌, ◌/◌, ◌%◌, ◌<◌, Bool, cond, ◌&&◌, ◌||◌, List, [], ◌∷◌, length, Some, None, Option, nat_le, nat_lt}
-use Rattle.std.specs.List.{AllByRecursion as All}
+use Rattle.std.specs.List.{AllByRecursion}
 use Rattle.octets.specs.Classes.{is_digit}
 use Rattle.octets.specs.Fronts.{and_then, after}
 
@@ -43,4 +43,4 @@ bytes_after word n s = and_then (after word s) (hex_within n)
 
 -- Each is a byte.
 abbrev pub AllBytes : List ℕ → Type 0
-AllBytes bs = All (λ b. b < 256) bs
+AllBytes bs = AllByRecursion (λ b. b < 256) bs

@@ -1,4 +1,4 @@
-use Rattle.std.proofs.Common.{◌+◌, ◌≤◌, ◌++◌, length, drop, Some, sym, ap, ◌∙◌, zero-add, arith}
+use Rattle.std.proofs.Common.{◌≤◌, ◌++◌, length, drop, Some, sym, ap, ◌∙◌, zero-add, arith}
 use Rattle.std.proofs.lemmas.Bool.{cond-true, le-leb}
 use Rattle.book.specs.Records.{entry_of}
 use Rattle.book.specs.Lines.{line_text}

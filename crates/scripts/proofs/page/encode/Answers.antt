@@ -1,5 +1,5 @@
 use Rattle.std.proofs.Common.{◌≡◌, ◌*◌, ◌<◌, length, take, sym, ap, ◌∙◌, subst, arith, length-drop, length-take}
-use Rattle.std.specs.List.{flat_map, AllByRecursion as All}
+use Rattle.std.specs.List.{flat_map, AllByRecursion}
 use Rattle.std.proofs.lemmas.List.{take_all}
 use Rattle.std.proofs.lemmas.Slice.{take-put_mid}
 use Rattle.std.proofs.ByRecursion.{All-more}
@@ -24,5 +24,5 @@ returns c =
     let full : take (c.loop-i.i * 8) c.loop-i.out ≡ c.loop-i.out = take_all _ _ (omega arith) in
     record {
       bytes = sym full ∙ c.loop-i.invariant.0 ∙ ap (flat_map step_bytes) whole;
-      back = back_all steps (subst (All ReadBack) whole c.loop-i.invariant.1);
+      back = back_all steps (subst (AllByRecursion ReadBack) whole c.loop-i.invariant.1);
     }

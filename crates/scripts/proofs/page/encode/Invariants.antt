@@ -1,5 +1,5 @@
 use Rattle.std.proofs.Common.{◌≡◌, ◌*◌, take}
-use Rattle.std.specs.List.{flat_map, AllByRecursion as All}
+use Rattle.std.specs.List.{flat_map, AllByRecursion}
 use Rattle.scripts.specs.Page.{step_bytes}
 use Rattle.scripts.proofs.Writing.{ReadBack}
 use Rattle.scripts.proofs.page.encode.Given as goal
@@ -8,4 +8,4 @@ use Rattle.scripts.proofs.page.encode.Given as goal
 abbrev pub invariant-loop-i : goal.invariant-loop-i
 invariant-loop-i l =
     (take (l.i * 8) l.out ≡ flat_map step_bytes (take l.i l.steps))
-    × (All ReadBack (take l.i l.steps))
+    × (AllByRecursion ReadBack (take l.i l.steps))
