@@ -7,6 +7,7 @@ use runs::notes::MemoryBook;
 use runs::run::run_servers;
 use script_servers::family::ScriptServers;
 use settings::Fault;
+use std::alloc::Global;
 use std::process::Abort;
 use std::test::*;
 
@@ -27,8 +28,7 @@ fn site_of(record: &Record) -> u8 {
 }
 
 // Runs these settings over servers that answer nothing.
-fn book_of(rt: HostRuntime, text: &'static [u8]) -> Result<MemoryBook, Fail> {
-    let heap = rt.alloc();
+fn book_of(heap: Global, text: &'static [u8]) -> Result<MemoryBook, Fail> {
     let Ok(plan) = Plan::read(heap, text) else {
         return Err(Fail::new("no plan"));
     };
@@ -56,15 +56,22 @@ fn holds(rt: &impl Abort, book: &MemoryBook, windows: &[u32], sites: &[u8]) -> R
     Ok(())
 }
 
-fn gives(rt: HostRuntime, text: &'static [u8], windows: &[u32], sites: &[u8]) -> Result<(), Fail> {
-    let book = book_of(rt, text)?;
-    holds(&rt, &book, windows, sites)
+fn gives(
+    rt: &impl Abort,
+    heap: Global,
+    text: &'static [u8],
+    windows: &[u32],
+    sites: &[u8],
+) -> Result<(), Fail> {
+    let book = book_of(heap, text)?;
+    holds(rt, &book, windows, sites)
 }
 
 #[test]
 fn windows_are_opened_first(rt: HostRuntime) -> Result<(), Fail> {
     gives(
-        rt,
+        &rt,
+        rt.alloc(),
         b"open https://a.example/\nsite https://c.example/\nopen https://b.example/x\n",
         &[99, 99],
         &[0, 2],
@@ -74,7 +81,8 @@ fn windows_are_opened_first(rt: HostRuntime) -> Result<(), Fail> {
 #[test]
 fn turns_by_line(rt: HostRuntime) -> Result<(), Fail> {
     gives(
-        rt,
+        &rt,
+        rt.alloc(),
         b"open https://a.example/\nopen https://b.example/\nturn 1\nturn 0\nturn 7\nturn 1\n",
         &[99, 99, 1, 0, 7, 1],
         &[0, 1, 1, 0, 99, 1],
@@ -84,7 +92,8 @@ fn turns_by_line(rt: HostRuntime) -> Result<(), Fail> {
 #[test]
 fn rounds_by_number(rt: HostRuntime) -> Result<(), Fail> {
     gives(
-        rt,
+        &rt,
+        rt.alloc(),
         b"open https://a.example/\nopen https://b.example/\n0 times all\n2 times all\nturn 1\n1 times all\n",
         &[99, 99, 0, 1, 0, 1, 1, 0, 1],
         &[0, 1, 0, 1, 0, 1, 1, 0, 1],
@@ -94,7 +103,8 @@ fn rounds_by_number(rt: HostRuntime) -> Result<(), Fail> {
 #[test]
 fn rounds_of_no_windows_are_over_at_once(rt: HostRuntime) -> Result<(), Fail> {
     gives(
-        rt,
+        &rt,
+        rt.alloc(),
         b"site https://a.example/\n999999999 times all\nturn 0\n",
         &[0],
         &[99],
@@ -103,7 +113,7 @@ fn rounds_of_no_windows_are_over_at_once(rt: HostRuntime) -> Result<(), Fail> {
 
 #[test]
 fn a_page_that_cannot_be_had_is_a_fault_of_its_opening(rt: HostRuntime) -> Result<(), Fail> {
-    let book = book_of(rt, b"open https://a.example/\nturn 0\n")?;
+    let book = book_of(rt.alloc(), b"open https://a.example/\nturn 0\n")?;
     let records = book.records();
     assert_eq!(rt; records.len(), 2);
     if records.len() == 2 {

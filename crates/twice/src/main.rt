@@ -10,6 +10,7 @@ use loading::sites::{number_of, sites_of};
 use loading::stop::{Stop, report};
 use side_by_side::twice::twice;
 use side_by_side::verdict::{Place, Verdict};
+use std::process::ExitCode;
 use std::{env, io};
 
 fn say_difference(rt: &HostRuntime, event: u64, difference: Difference) -> io::Result<()> {
