@@ -22,11 +22,11 @@ fn a_shorter_keep_hides_a_longer_one(rt: HostRuntime) -> Result<(), Fail> {
     let mut stores = Stores::new(rt.alloc())?;
     let site = some!(SiteNumber::new(15));
     let other = some!(SiteNumber::new(14));
-    assert_eq!(rt; stores.look(site), b"");
+    assert_eq!(rt; stores.look(site), b"".as_slice());
     assert_eq!(rt; stores.keep(site, b"a longer text"), true);
     assert_eq!(rt; stores.keep(site, b"short"), true);
-    assert_eq!(rt; stores.look(site), b"short");
-    assert_eq!(rt; stores.look(other), b"");
+    assert_eq!(rt; stores.look(site), b"short".as_slice());
+    assert_eq!(rt; stores.look(other), b"".as_slice());
     Ok(())
 }
 
@@ -40,7 +40,7 @@ fn more_than_4096_bytes_are_refused(rt: HostRuntime) -> Result<(), Fail> {
     assert_eq!(rt; stores.keep(site, most.as_slice()), true);
     assert_eq!(rt; stores.keep(site, more.as_slice()), false);
     assert_eq!(rt; stores.look(site), most.as_slice());
-    assert_eq!(rt; stores.look(other), b"");
+    assert_eq!(rt; stores.look(other), b"".as_slice());
     Ok(())
 }
 
@@ -51,13 +51,13 @@ fn one_host_with_two_ports_is_two_sites(rt: HostRuntime) -> Result<(), Fail> {
     let first = some!(table.add(Site { host, port: 443 }));
     let second = some!(table.add(Site { host, port: 8443 }));
     let found = table.site(second).ok_or("not there")?;
-    assert_eq!(rt; found.host, host);
+    assert_eq!(rt; found.host, host.as_slice());
     assert_eq!(rt; found.port, 8443);
     let mut stores = Stores::new(rt.alloc())?;
     assert_eq!(rt; stores.keep(first, b"one"), true);
     assert_eq!(rt; stores.keep(second, b"two"), true);
-    assert_eq!(rt; stores.look(first), b"one");
-    assert_eq!(rt; stores.look(second), b"two");
+    assert_eq!(rt; stores.look(first), b"one".as_slice());
+    assert_eq!(rt; stores.look(second), b"two".as_slice());
     Ok(())
 }
 
@@ -69,7 +69,7 @@ fn no_token_is_not_the_empty_token(rt: HostRuntime) -> Result<(), Fail> {
     let other = some!(SiteNumber::new(1));
     tokens.set(site, &Text::empty());
     assert_eq!(rt; none.get(site).is_none(), true);
-    assert_eq!(rt; tokens.get(site).ok_or("no token")?, b"");
+    assert_eq!(rt; tokens.get(site).ok_or("no token")?, b"".as_slice());
     assert_eq!(rt; tokens.get(other).is_none(), true);
     assert_eq!(rt; tokens.same(&none, site), false);
     assert_eq!(rt; tokens.same(&none, other), true);

@@ -13,9 +13,9 @@ returns-then-not-same c = (
 
 pub returns-then-same : goal.returns-then-same
 returns-then-same c =
-    let same_site_lem = sym c.site.ensures ∙ c.if-not-same.ensures.0 refl ∙ c.site-2.ensures in
+    let site = sym c.site.ensures ∙ c.if-not-same.ensures.0 refl ∙ c.site-2.ensures in
     let own = sym c.site-3.ensures ∙ c.if-same.ensures.0 refl in
-    (λ e. own-alike (window_of c.args.one.now) (window_of c.args.two.now) (eq-eqb _ _ own) same_site_lem, λ a. refl)
+    (λ e. own-alike (window_of c.args.one.now) (window_of c.args.two.now) (eq-eqb _ _ own) site, λ a. refl)
 
 pub returns : goal.returns
 returns c =
