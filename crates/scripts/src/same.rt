@@ -16,7 +16,10 @@ impl PartialEq for Step {
 
     ghost laws = { Prim.search (comparing, rules) };
 
-    fn eq(&self, other: &Step) -> bool {
+    fn eq(&self, other: &Step) -> bool
+        ensures is { result ≡ on parts_of (pointwise nat_eq) self.now other.now }
+        ensures same { Decides result (self.now ≡ other.now) }
+    {
         let a = encode::step(*self);
         let b = encode::step(*other);
         a == b

@@ -17,7 +17,10 @@ impl PartialEq for Word {
 
     ghost laws = { Prim.search (comparing, rules) };
 
-    fn eq(&self, other: &Word) -> bool {
+    fn eq(&self, other: &Word) -> bool
+        ensures is { result ≡ on word_of same_words self.now other.now }
+        ensures same { Decides result (word_of self.now ≡ word_of other.now) }
+    {
         self.from.same(other.from) && self.text.same(&other.text)
     }
 }
