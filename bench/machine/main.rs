@@ -4,7 +4,6 @@
 mod plain;
 
 #[link(name = "machine_export", kind = "static")]
-#[link(name = "rattle_c", kind = "static")]
 unsafe extern "C" {
     fn machine_play(
         page: *const u8,
