@@ -5,7 +5,7 @@ use Rattle.machine.specs.declared.Outcome.{Outcome}
 use Rattle.machine.specs.Script.{State}
 use Rattle.machine.specs.Turn as turn
 use Rattle.pages.specs.Sites.{Bytes, Scripts, Request, Act, Idle, Asks, Says, Keeps, Looks, Opens}
-use Rattle.pages.specs.Browser.{Window, Part, told_now, act_of, stepped, change, nth, acted, begun_by, needs_of, needs_by, with-windows, most_windows}
+use Rattle.pages.specs.Browser.{Window, Part, told_now, act_of, stepped, change, nth, acted, begun_by, needs_of, needs_by, with_windows, most_windows}
 use Rattle.pages.specs.Outs.{Out, out, Said, is_of}
 use Rattle.windows.specs.Scripts.{outcome_in}
 use Rattle.browser.specs.Halves.{page_outs, page_outs_of, run_fault}
@@ -40,7 +40,7 @@ outs_stay c xs i s Looks = refl
 outs_stay c xs i s (Opens t h) = refl
 
 -- what is needed goes by how many windows there are, and not by what they are
-needs_stay : (xs ys : List (Window State)) (b : Part State) (s : ℕ) (a : Act) → length xs ≡ length ys → needs_by s a (with-windows xs b) ≡ needs_by s a (with-windows ys b)
+needs_stay : (xs ys : List (Window State)) (b : Part State) (s : ℕ) (a : Act) → length xs ≡ length ys → needs_by s a (with_windows xs b) ≡ needs_by s a (with_windows ys b)
 needs_stay xs ys b s Idle e = refl
 needs_stay xs ys b s (Asks t h d) e = refl
 needs_stay xs ys b s (Says j t d) e = refl
@@ -60,14 +60,14 @@ module _ {W : Type 0} (g : W → Window State) (c : Scripts State) (ws : List W)
   put : map g (set ws i y) ≡ change i (stepped c) (map g ws)
   put = change-set g (stepped c) ws i x y at_i steps here
 
-  begun_is : (p : Part State) → p ≡ acted i s a (with-windows (map g (set ws i y)) before) → p ≡ begun_by c i (nth i (map g ws)) before
+  begun_is : (p : Part State) → p ≡ acted i s a (with_windows (map g (set ws i y)) before) → p ≡ begun_by c i (nth i (map g ws)) before
   begun_is p e = e
-      ∙ ap (λ z. acted i z a (with-windows (map g (set ws i y)) before)) site
-      ∙ ap (λ z. acted i (g x).site z (with-windows (map g (set ws i y)) before)) act
-      ∙ ap (λ z. acted i (g x).site (act_of c (g x)) (with-windows z before)) put
+      ∙ ap (λ z. acted i z a (with_windows (map g (set ws i y)) before)) site
+      ∙ ap (λ z. acted i (g x).site z (with_windows (map g (set ws i y)) before)) act
+      ∙ ap (λ z. acted i (g x).site (act_of c (g x)) (with_windows z before)) put
       ∙ ap (λ z. begun_by c i z before) (sym found)
 
-  needs_is : (q : Option Request) → q ≡ needs_by s a (with-windows (map g (set ws i y)) before) → q ≡ needs_of c (nth i (map g ws)) before
+  needs_is : (q : Option Request) → q ≡ needs_by s a (with_windows (map g (set ws i y)) before) → q ≡ needs_of c (nth i (map g ws)) before
   needs_is q e = e
       ∙ needs_stay (map g (set ws i y)) (map g ws) before s a (ap length put ∙ length-change i (stepped c) (map g ws))
       ∙ ap (λ z. needs_by z a before) site
@@ -86,8 +86,8 @@ module _ {W : Type 0} (g : W → Window State) (c : Scripts State) (ws : List W)
   fault_is f n r e o = e ∙ ap turn.fault_number o ∙ ap (run_fault n) (sym found)
 
   -- what is done, what is asked for, what is let out, and the fault
-  pub first_half : ((p : Part State) → p ≡ acted i s a (with-windows (map g (set ws i y)) before) → p ≡ begun_by c i (nth i (map g ws)) before)
-      × (((q : Option Request) → q ≡ needs_by s a (with-windows (map g (set ws i y)) before) → q ≡ needs_of c (nth i (map g ws)) before)
+  pub first_half : ((p : Part State) → p ≡ acted i s a (with_windows (map g (set ws i y)) before) → p ≡ begun_by c i (nth i (map g ws)) before)
+      × (((q : Option Request) → q ≡ needs_by s a (with_windows (map g (set ws i y)) before) → q ≡ needs_of c (nth i (map g ws)) before)
       × (((os : List Out) → os ≡ page_outs (map g (set ws i y)) s a → os ≡ page_outs_of c (nth i (map g ws)) before)
       × ((f n : ℕ) (r : Outcome) → f ≡ turn.fault_number r → r ≡ outcome_in n (g x).state (told_now (g x)) → f ≡ run_fault n (nth i (map g ws)))))
   first_half = (begun_is, (needs_is, (outs_is, fault_is)))

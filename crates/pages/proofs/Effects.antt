@@ -5,11 +5,11 @@ use Rattle.pages.specs.Sites.{Bytes, Act, Idle, Asks, Says, Keeps, Looks, Opens,
 use Rattle.pages.specs.Browser.{Word, Window, World, most_windows, at, nth, change, act_of, stepped, owns, hears, fresh, answered, token_after, page_needed, needs_of, begun_by, exchanged, happens, Event, Opening, TurnOf}
 use Rattle.pages.specs.Outs.{is_of}
 use Rattle.pages.specs.Runs.{Run, Due, iterate, trace, due_now, event_by, step_by, step}
-use Rattle.pages.specs.Views.{View, view_of, of_site, Effect, Runs, Learns, Finds, Hears, Stores, Serves, Begins, change_at, only_for, opening, with-own, with-served, takes, takes_all, effects_by, effects_of, effects_on, effects_now, concat}
+use Rattle.pages.specs.Views.{View, view_of, of_site, Effect, Runs, Learns, Finds, Hears, Stores, Serves, Begins, change_at, only_for, opening, with_own, with_served, takes, takes_all, effects_by, effects_of, effects_on, effects_now, concat}
 use Rattle.pages.specs.Laws.{asking, fetching, running, ViewLaw, HistoryLaw, Foreign, nothing, asks, says, opens, TouchedOnly}
 use Rattle.pages.proofs.Places.{nth-change, is_of-change, change-length, at_there, Sited, sited_this, hears-site}
 use Rattle.pages.proofs.Turns.{showing, replied, after_run, does, turn_is}
-use Rattle.pages.proofs.Numbered.{KeepsSite, of_site-at, of_site-join, ofSite-own, ofSite-unheard}
+use Rattle.pages.proofs.Numbered.{KeepsSite, of_site-at, of_site-join, of_site-own, of_site-unheard}
 
 at_this : {A : Type 0} (t v : ℕ) (a : A) (f : ℕ → A) → t ≡ v → at t a f v ≡ a
 at_this t v a f e = rw (eq-eqb v t (sym e))
@@ -24,20 +24,20 @@ module _ {S R : Type 0} where
   takes_all-join p v (e ∷ es) fs x = takes_all-join p v es fs (takes p v e x)
 
   -- what is of a site, where it has these windows
-  showing_view : (v : ℕ) (w : World S R) (xs : List (Window S)) (ys : List (ℕ × Window S)) → of_site v 0 xs ≡ ys → view_of v (showing xs w) ≡ with-own ys (view_of v w)
-  showing_view v w xs ys e = ap (λ zs. with-own zs (view_of v w)) e
+  showing_view : (v : ℕ) (w : World S R) (xs : List (Window S)) (ys : List (ℕ × Window S)) → of_site v 0 xs ≡ ys → view_of v (showing xs w) ≡ with_own ys (view_of v w)
+  showing_view v w xs ys e = ap (λ zs. with_own zs (view_of v w)) e
 
   -- THE WINDOWS ALONE ARE CHANGED: one of site s, which is an effect for s
   own-effect :
       (p : Sites S R) (v i s : ℕ) (f : Window S → Window S) (e : Effect) (w : World S R) → KeepsSite f → Sited i s w.part.windows →
-      (s ≡ v → takes p v e (view_of v w) ≡ with-own (change_at i f (of_site v 0 w.part.windows)) (view_of v w)) →
+      (s ≡ v → takes p v e (view_of v w) ≡ with_own (change_at i f (of_site v 0 w.part.windows)) (view_of v w)) →
       view_of v (showing (change i f w.part.windows) w) ≡ takes_all p v (only_for v s (e ∷ [])) (view_of v w)
   unfolding takes_all
   own-effect p v i s f e w k h t = go (eqb s v) refl
     where
       go : (b : Bool) → eqb s v ≡ b → view_of v (showing (change i f w.part.windows) w) ≡ takes_all p v (cond b (e ∷ []) []) (view_of v w)
-      go true d = showing_view v w _ _ (ofSite-own v i s f w.part.windows k h true d) ∙ sym (t (eqb-true s v d))
-      go false d = showing_view v w _ _ (ofSite-own v i s f w.part.windows k h false d)
+      go true d = showing_view v w _ _ (of_site-own v i s f w.part.windows k h true d) ∙ sym (t (eqb-true s v d))
+      go false d = showing_view v w _ _ (of_site-own v i s f w.part.windows k h false d)
 
   -- a word is said to window j, if it is of site t
   word-effect :
@@ -51,11 +51,11 @@ module _ {S R : Type 0} where
           view_of v (showing (change j (hears t m) w.part.windows) w) ≡ takes_all p v (cond b (cond c (Hears j m.from m.what ∷ []) []) []) (view_of v w)
       go true true e o =
           showing_view v w _ _ (of_site-at v j (hears t m) w.part.windows (hears-site t m) ∙ ap (λ z. change_at j (hears z m) (of_site v 0 w.part.windows)) (eqb-true t v e))
-      go true false e o = showing_view v w _ _ (ofSite-unheard v j t m w.part.windows (λ x at_x h. ap (is_of t) (sym at_x) ∙ o))
-      go false c e o = showing_view v w _ _ (ofSite-unheard v j t m w.part.windows (λ x at_x h. ne_eqb x.site t (λ d. eqb-false t v e (sym d ∙ eqb-true x.site v h))))
+      go true false e o = showing_view v w _ _ (of_site-unheard v j t m w.part.windows (λ x at_x h. ap (is_of t) (sym at_x) ∙ o))
+      go false c e o = showing_view v w _ _ (of_site-unheard v j t m w.part.windows (λ x at_x h. ne_eqb x.site t (λ d. eqb-false t v e (sym d ∙ eqb-true x.site v h))))
 
   -- A SERVER IS ASKED, which is an effect for its site
-  served_here : (p : Sites S R) (v : ℕ) (q : Request) (xs : List (Window S)) (w : World S R) → q.site ≡ v → view_of v (replied p q xs w) ≡ with-served (of_site v 0 xs) (p.serve q (w.servers q.site)) (view_of v w)
+  served_here : (p : Sites S R) (v : ℕ) (q : Request) (xs : List (Window S)) (w : World S R) → q.site ≡ v → view_of v (replied p q xs w) ≡ with_served (of_site v 0 xs) (p.serve q (w.servers q.site)) (view_of v w)
   served_here p v q xs w e =
       ap₂ (λ k r. record { windows = of_site v 0 xs; token = k; kept = w.part.kept v; server = r })
       (at_this q.site v _ w.part.tokens e ∙ ap (λ z. token_after (p.serve q (w.servers q.site)).reply (w.part.tokens z)) e)
@@ -74,7 +74,7 @@ module _ {S R : Type 0} where
       go : (b : Bool) → eqb t v ≡ b → view_of v (replied p (asking w s t h d) w.part.windows w) ≡ takes_all p v (cond b (Serves s h d ∷ []) []) (view_of v w)
       go true e =
           served_here p v (asking w s t h d) w.part.windows w (eqb-true t v e)
-          ∙ ap (λ z. with-served (of_site v 0 w.part.windows) (p.serve (asking w s z h d) (w.servers z)) (view_of v w)) (eqb-true t v e)
+          ∙ ap (λ z. with_served (of_site v 0 w.part.windows) (p.serve (asking w s z h d) (w.servers z)) (view_of v w)) (eqb-true t v e)
       go false e = served_else p v (asking w s t h d) w.part.windows w e
 
   -- the window that is opened
@@ -93,8 +93,8 @@ module _ {S R : Type 0} where
           view_of v (replied p (fetching w t h) (w.part.windows ++ (begins p t h w ∷ [])) w) ≡ takes_all p v (cond b (Begins (length w.part.windows) h ∷ []) []) (view_of v w)
       go true e =
           served_here p v (fetching w t h) (w.part.windows ++ (begins p t h w ∷ [])) w (eqb-true t v e)
-          ∙ ap (λ xs. with-served xs (p.serve (fetching w t h) (w.servers t)) (view_of v w)) (of_site-join v w.part.windows (begins p t h w) true e)
-          ∙ ap (λ z. with-served (of_site v 0 w.part.windows ++ ((length w.part.windows, begins p z h w) ∷ [])) (p.serve (fetching w z h) (w.servers z)) (view_of v w)) (eqb-true t v e)
+          ∙ ap (λ xs. with_served xs (p.serve (fetching w t h) (w.servers t)) (view_of v w)) (of_site-join v w.part.windows (begins p t h w) true e)
+          ∙ ap (λ z. with_served (of_site v 0 w.part.windows ++ ((length w.part.windows, begins p z h w) ∷ [])) (p.serve (fetching w z h) (w.servers z)) (view_of v w)) (eqb-true t v e)
       go false e =
           served_else p v (fetching w t h) (w.part.windows ++ (begins p t h w ∷ [])) w e
           ∙ showing_view v w _ _ (of_site-join v w.part.windows (begins p t h w) false e)
@@ -138,7 +138,7 @@ module _ {S R : Type 0} where
   act-effects p v i s w at_i (Keeps d) = keep_effect p v s d w (eqb s v) refl
   act-effects p v i s w at_i Looks =
       own-effect p v i s (owns (Kept (w.part.kept s))) (Finds i) w (λ x. refl) at_i
-      (λ e. ap (λ z. with-own (change_at i (owns (Kept (w.part.kept z))) (of_site v 0 w.part.windows)) (view_of v w)) (sym e))
+      (λ e. ap (λ z. with_own (change_at i (owns (Kept (w.part.kept z))) (of_site v 0 w.part.windows)) (view_of v w)) (sym e))
   act-effects p v i s w at_i (Opens t h) = opening-effect p v t h w (TurnOf i) refl
 
   -- A TURN: the script runs, then it acts

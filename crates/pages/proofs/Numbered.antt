@@ -14,17 +14,17 @@ module _ {S : Type 0} where
   before b k x xs = cond b ((k, x) ∷ xs) xs
 
   -- a change that doesn't change the site's own windows
-  pub ofSite-same :
+  pub of_site-same :
       (v k i : ℕ) (f : Window S → Window S) (xs : List (Window S)) → KeepsSite f → ((x : Window S) → nth i xs ≡ Some x → eqb x.site v ≡ true → f x ≡ x) →
       of_site v k (change i f xs) ≡ of_site v k xs
   unfolding nth change of_site
-  ofSite-same v k i f [] s h = refl
-  ofSite-same v k zero f (y ∷ ys) s h = ap (λ z. before (eqb z v) k (f y) (of_site v (suc k) ys)) (s y) ∙ go (eqb y.site v) refl
+  of_site-same v k i f [] s h = refl
+  of_site-same v k zero f (y ∷ ys) s h = ap (λ z. before (eqb z v) k (f y) (of_site v (suc k) ys)) (s y) ∙ go (eqb y.site v) refl
     where
       go : (b : Bool) → eqb y.site v ≡ b → before b k (f y) (of_site v (suc k) ys) ≡ before b k y (of_site v (suc k) ys)
       go true e = ap {B = List (ℕ × Window S)} (λ z. (k, z) ∷ of_site v (suc k) ys) (h y refl e)
       go false e = refl
-  ofSite-same v k (suc i) f (y ∷ ys) s h = ap (before (eqb y.site v) k y) (ofSite-same v (suc k) i f ys s h)
+  of_site-same v k (suc i) f (y ∷ ys) s h = ap (before (eqb y.site v) k y) (of_site-same v (suc k) i f ys s h)
 
   -- a change at number n, where the first has number k
   change_at_first : (b : Bool) (k n : ℕ) (f : Window S → Window S) (y : Window S) (xs : List (ℕ × Window S)) → k ≡ n → change_at n f (before b k y xs) ≡ before b k (f y) (change_at n f xs)
@@ -81,14 +81,14 @@ module _ {S : Type 0} where
       go false = append-nil (of_site v 0 xs)
 
   -- a window of site s is changed
-  pub ofSite-own :
+  pub of_site-own :
       (v i s : ℕ) (f : Window S → Window S) (xs : List (Window S)) → KeepsSite f → Sited i s xs → (b : Bool) → eqb s v ≡ b →
       of_site v 0 (change i f xs) ≡ cond b (change_at i f (of_site v 0 xs)) (of_site v 0 xs)
-  ofSite-own v i s f xs k h true e = of_site-at v i f xs k
-  ofSite-own v i s f xs k h false e = ofSite-same v 0 i f xs k (λ x at_x t. absurd (true≢false (sym t ∙ ap (λ z. eqb z v) (h x at_x) ∙ e)))
+  of_site-own v i s f xs k h true e = of_site-at v i f xs k
+  of_site-own v i s f xs k h false e = of_site-same v 0 i f xs k (λ x at_x t. absurd (true≢false (sym t ∙ ap (λ z. eqb z v) (h x at_x) ∙ e)))
 
   -- a word for a window of another site, or for none
-  pub ofSite-unheard :
+  pub of_site-unheard :
       (v j t : ℕ) (m : Word) (xs : List (Window S)) → ((x : Window S) → nth j xs ≡ Some x → eqb x.site v ≡ true → eqb x.site t ≡ false) →
       of_site v 0 (change j (hears t m) xs) ≡ of_site v 0 xs
-  ofSite-unheard v j t m xs h = ofSite-same v 0 j (hears t m) xs (hears-site t m) (λ x at_x e. hears-not t m x (h x at_x e))
+  of_site-unheard v j t m xs h = of_site-same v 0 j (hears t m) xs (hears-site t m) (λ x at_x e. hears-not t m x (h x at_x e))

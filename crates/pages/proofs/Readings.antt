@@ -51,8 +51,8 @@ module _ (S R : Type 0) where
   pub each_window : EachWindow S R
   each_window p w i j x y at_x at_y = turn-becomes p w i j x y at_x at_y (act_of p.scripts x) refl
 
-  pub told-next : ToldNext S R
-  told-next x = (λ e. (rw e, rw e), λ m ms e d. (rw (e, d), rw (e, d)))
+  pub told_next : ToldNext S R
+  told_next x = (λ e. (rw e, rw e), λ m ms e d. (rw (e, d), rw (e, d)))
 
   -- the window whose turn it is, by its act
   own-window :
@@ -80,8 +80,8 @@ module _ (S R : Type 0) where
   pub looks_finds : LooksFinds S R
   looks_finds p w i x at_x e = own-window p w i x at_x Looks e (owns (Kept (w.part.kept x.site)) (stepped p.scripts x)) (rw (eq-eqb i i refl))
 
-  pub word-to_oneself : WordToOneself S R
-  word-to_oneself p w i x d at_x e room =
+  pub word_to_oneself : WordToOneself S R
+  word_to_oneself p w i x d at_x e room =
       own-window p w i x at_x (Says i x.site d) e (joined (record { from = x.site; what = d }) (stepped p.scripts x))
       (rw (eq-eqb i i refl, eq-eqb x.site x.site refl, lt-ltb (length (words_left x)) most_words room))
 
@@ -119,4 +119,4 @@ module _ (S R : Type 0) where
   )
 
   pub readings : Readings S R
-  readings = record { told-next = told-next; sees_own = sees_own; word-to_oneself = word-to_oneself; ninth_word = ninth_word; opens_window = opens_window; looks_finds = looks_finds }
+  readings = record { told_next = told_next; sees_own = sees_own; word_to_oneself = word_to_oneself; ninth_word = ninth_word; opens_window = opens_window; looks_finds = looks_finds }

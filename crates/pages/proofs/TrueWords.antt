@@ -2,7 +2,7 @@
 use Rattle.std.proofs.Common.{◌≡◌, ℕ, zero, suc, Bool, true, false, cond, ◌&&◌, eqb, List, [], ◌∷◌, ◌++◌, Some, None, Option, sym, refl, ap, ◌∙◌, subst, append_assoc, append-nil, eqb-true}
 use borrow.Author.Tests.{eqb-false}
 use Rattle.pages.specs.Sites.{Act, Idle, Asks, Says, Keeps, Looks, Opens, Request, Reply, Sites}
-use Rattle.pages.specs.Browser.{Word, Window, Part, World, nth, change, is_silence, other_words, act_of, stepped, owns, joined, hears, fresh, acted, page_needed, replied_to, with-windows, begun_by, begun, needs, exchanged, happens, Event, Opening, TurnOf}
+use Rattle.pages.specs.Browser.{Word, Window, Part, World, nth, change, is_silence, other_words, act_of, stepped, owns, joined, hears, fresh, acted, page_needed, replied_to, with_windows, begun_by, begun, needs, exchanged, happens, Event, Opening, TurnOf}
 use Rattle.pages.specs.Runs.{trace, Due, Run, due_now, event_by, step_by, step, begin}
 use Rattle.pages.specs.Views.{concat}
 use Rattle.pages.specs.Laws.{accepts, delivered_by, delivered_of, delivered_on, delivered_now, WordsTruly}
@@ -80,7 +80,7 @@ module _ {S R : Type 0} (p : Sites S R) (j : ℕ) where
   begun_truly : (said : List Word) (i : ℕ) (f : Option (Window S)) (w : World S R) → Truly said (nth j w.part.windows) → Truly (said ++ delivered_of p j i f w) (nth j (begun_by p.scripts i f w.part).windows)
   begun_truly said i None w h = same_truly said (nth j w.part.windows) h
   begun_truly said i (Some x) w h =
-      acted_truly said j i x.site (act_of p.scripts x) (with-windows (change i (stepped p.scripts) w.part.windows) w.part)
+      acted_truly said j i x.site (act_of p.scripts x) (with_windows (change i (stepped p.scripts) w.part.windows) w.part)
       (change_truly said j i (stepped p.scripts) (λ y. left_truly said (is_silence y.own) y.words) w.part.windows h)
 
   happens_truly : (said : List Word) (e : Event) (w : World S R) → Truly said (nth j w.part.windows) → Truly (said ++ delivered_on p j w (Some e)) (nth j (happens p e w).part.windows)

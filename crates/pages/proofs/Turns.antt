@@ -1,14 +1,14 @@
 -- A turn is its script's run and then its act.
 use Rattle.std.proofs.Common.{◌≡◌, ℕ, cond, ltb, List, Some, None, Option, sym, refl, ap, ◌∙◌}
 use Rattle.pages.specs.Sites.{Act, Idle, Asks, Says, Keeps, Looks, Opens, Request, Sites}
-use Rattle.pages.specs.Browser.{Window, World, most_windows, at, nth, act_of, stepped, with-windows, acted, needs_by, needs_of, begun_by, with_reply, exchanged, happens, TurnOf}
+use Rattle.pages.specs.Browser.{Window, World, most_windows, at, nth, act_of, stepped, with_windows, acted, needs_by, needs_of, begun_by, with_reply, exchanged, happens, TurnOf}
 use Rattle.pages.specs.Laws.{running, fetching}
 use Rattle.pages.proofs.Places.{change-length}
 
 module _ {S R : Type 0} where
   -- the world with other windows
   abbrev pub showing : List (Window S) → World S R → World S R
-  showing xs w = record { part = with-windows xs w.part; servers = w.servers }
+  showing xs w = record { part = with_windows xs w.part; servers = w.servers }
 
   -- and where the server of q's site has replied to q
   abbrev pub replied : Sites S R → Request → List (Window S) → World S R → World S R

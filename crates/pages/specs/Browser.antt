@@ -136,16 +136,16 @@ module _ {S : Type 0} where
   fresh c t h r = record { site = t; state = c.begin t (page_in r); own = Begun h; words = [] }
 
   -- The part with these windows.
-  abbrev pub with-windows : List (Window S) → Part S → Part S
-  with-windows xs b = record { windows = xs; tokens = b.tokens; kept = b.kept }
+  abbrev pub with_windows : List (Window S) → Part S → Part S
+  with_windows xs b = record { windows = xs; tokens = b.tokens; kept = b.kept }
 
   -- An act of window i, of site s, as far as it needs no server.
   abbrev pub acted : ℕ → ℕ → Act → Part S → Part S
   acted i s Idle b = b
   acted i s (Asks t h d) b = b
-  acted i s (Says j t d) b = with-windows (change j (hears t (record { from = s; what = d })) b.windows) b
+  acted i s (Says j t d) b = with_windows (change j (hears t (record { from = s; what = d })) b.windows) b
   acted i s (Keeps d) b = record { windows = b.windows; tokens = b.tokens; kept = at s d b.kept }
-  acted i s Looks b = with-windows (change i (owns (Kept (b.kept s))) b.windows) b
+  acted i s Looks b = with_windows (change i (owns (Kept (b.kept s))) b.windows) b
   acted i s (Opens t h) b = b
 
   -- A page of site t is asked for in nobody's name, where there is room for a window more.
@@ -179,7 +179,7 @@ module _ {S : Type 0} where
   -- A turn of the window that is there, or none: the script steps, and does what needs no server.
   abbrev pub begun_by : Scripts S → ℕ → Option (Window S) → Part S → Part S
   begun_by c i None b = b
-  begun_by c i (Some x) b = acted i x.site (act_of c x) (with-windows (change i (stepped c) b.windows) b)
+  begun_by c i (Some x) b = acted i x.site (act_of c x) (with_windows (change i (stepped c) b.windows) b)
 
   -- The request that its act makes.
   abbrev pub needs_of : Scripts S → Option (Window S) → Part S → Option Request

@@ -254,9 +254,9 @@ RoundLaw S R =
 
 -- What a window may count on: what it is told next; what it sees of a reply; words to itself and ninth words; openings; what it finds.
 pub record Readings (S R : Type 0) : Type 0 where
-  pub told-next : ToldNext S R
+  pub told_next : ToldNext S R
   pub sees_own : SeesOwn S R
-  pub word-to_oneself : WordToOneself S R
+  pub word_to_oneself : WordToOneself S R
   pub ninth_word : NinthWord S R
   pub opens_window : OpensWindow S R
   pub looks_finds : LooksFinds S R

@@ -64,22 +64,22 @@ module _ {S R : Type 0} where
   served_to p v from h d x = p.serve (request_to v from h d x) x.server
 
   -- The view with these windows.
-  abbrev pub with-own : List (ℕ × Window S) → View S R → View S R
-  with-own xs x = record { windows = xs; token = x.token; kept = x.kept; server = x.server }
+  abbrev pub with_own : List (ℕ × Window S) → View S R → View S R
+  with_own xs x = record { windows = xs; token = x.token; kept = x.kept; server = x.server }
 
   -- The view with these windows, once its server has served a request.
-  abbrev pub with-served : List (ℕ × Window S) → Served R → View S R → View S R
-  with-served xs v x = record { windows = xs; token = token_after v.reply x.token; kept = x.kept; server = v.state }
+  abbrev pub with_served : List (ℕ × Window S) → Served R → View S R → View S R
+  with_served xs v x = record { windows = xs; token = token_after v.reply x.token; kept = x.kept; server = v.state }
 
   -- THE VIEW after an effect: a function of the view before, and of nothing else.
   abbrev pub takes : Sites S R → ℕ → Effect → View S R → View S R
-  takes p v (Runs i) x = with-own (change_at i (stepped p.scripts) x.windows) x
-  takes p v (Learns i t) x = with-own (change_at i (owns t) x.windows) x
-  takes p v (Finds i) x = with-own (change_at i (owns (Kept x.kept)) x.windows) x
-  takes p v (Hears j s d) x = with-own (change_at j (hears v (record { from = s; what = d })) x.windows) x
+  takes p v (Runs i) x = with_own (change_at i (stepped p.scripts) x.windows) x
+  takes p v (Learns i t) x = with_own (change_at i (owns t) x.windows) x
+  takes p v (Finds i) x = with_own (change_at i (owns (Kept x.kept)) x.windows) x
+  takes p v (Hears j s d) x = with_own (change_at j (hears v (record { from = s; what = d })) x.windows) x
   takes p v (Stores d) x = record { windows = x.windows; token = x.token; kept = d; server = x.server }
-  takes p v (Serves s h d) x = with-served x.windows (served_to p v (Some s) h d x) x
-  takes p v (Begins n h) x = with-served (x.windows ++ ((n, fresh p.scripts v h (served_to p v None h [] x).reply) ∷ [])) (served_to p v None h [] x) x
+  takes p v (Serves s h d) x = with_served x.windows (served_to p v (Some s) h d x) x
+  takes p v (Begins n h) x = with_served (x.windows ++ ((n, fresh p.scripts v h (served_to p v None h [] x).reply) ∷ [])) (served_to p v None h [] x) x
 
   -- One effect after the other.
   unfoldable pub takes_all : Sites S R → ℕ → List Effect → View S R → View S R

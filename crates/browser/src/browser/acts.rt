@@ -3,7 +3,7 @@ ghost use Rattle.std.specs.Prelude.{◌≡◌, ◌<◌, true, vec_len};
 ghost use Rattle.std.specs.Option.{option_map};
 ghost use Rattle.bounded.specs.Numbers.{number_of};
 ghost use Rattle.storage.specs.Storage.{tokens_of};
-ghost use Rattle.pages.specs.Browser.{nth, change, hears, owns, acted, needs_by, with-windows};
+ghost use Rattle.pages.specs.Browser.{nth, change, hears, owns, acted, needs_by, with_windows};
 ghost use Rattle.pages.specs.Outs.{is_of};
 ghost use Rattle.pages.specs.Sites.{Kept};
 ghost use Rattle.windows.specs.Queues.{word_of};
@@ -37,7 +37,7 @@ impl Browser {
 
     // A word to a window that isn't there, or isn't of the named site, is dropped.
     fn say(&mut self, window: u32, to: SiteNumber, word: &Word)
-        ensures part { part_of self.new ≡ with-windows (change window (hears (number_of to) (word_of word.now)) (part_of self.old).windows) (part_of self.old) }
+        ensures part { part_of self.new ≡ with_windows (change window (hears (number_of to) (word_of word.now)) (part_of self.old).windows) (part_of self.old) }
         ensures count { vec_len self.new.windows ≡ vec_len self.old.windows }
         ensures rest { (self.new.tokens ≡ self.old.tokens) × (self.new.table ≡ self.old.table) }
     {
@@ -49,7 +49,7 @@ impl Browser {
 
     // The window is to be told of its own doing.
     pub(crate) fn tell(&mut self, window: usize, told: Told, bytes: &[u8])
-        ensures part { part_of self.new ≡ with-windows (change window (tells told bytes.now) (part_of self.old).windows) (part_of self.old) }
+        ensures part { part_of self.new ≡ with_windows (change window (tells told bytes.now) (part_of self.old).windows) (part_of self.old) }
         ensures count { vec_len self.new.windows ≡ vec_len self.old.windows }
         ensures rest { (self.new.tokens ≡ self.old.tokens) × (self.new.table ≡ self.old.table) }
     {
@@ -60,7 +60,7 @@ impl Browser {
 
     // The window is to be told what its site keeps.
     fn look(&mut self, window: usize, site: SiteNumber)
-        ensures part { part_of self.new ≡ with-windows (change window (owns (Kept ((part_of self.old).kept (number_of site)))) (part_of self.old).windows) (part_of self.old) }
+        ensures part { part_of self.new ≡ with_windows (change window (owns (Kept ((part_of self.old).kept (number_of site)))) (part_of self.old).windows) (part_of self.old) }
         ensures count { vec_len self.new.windows ≡ vec_len self.old.windows }
         ensures rest { (self.new.tokens ≡ self.old.tokens) × (self.new.table ≡ self.old.table) }
     {

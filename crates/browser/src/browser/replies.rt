@@ -8,11 +8,11 @@ ghost use Rattle.bounded.specs.Texts.{text_of};
 ghost use Rattle.octets.specs.Answers.{Read};
 ghost use Rattle.lines.specs.Lines.{token_fits};
 ghost use Rattle.lines.specs.Views.{fault_number};
-ghost use Rattle.pages.specs.Browser.{replied_to, with_reply, with-windows};
+ghost use Rattle.pages.specs.Browser.{replied_to, with_reply, with_windows};
 ghost use Rattle.scripts.specs.Page.{page_in};
 ghost use Rattle.storage.specs.Storage.{tokens_of};
 ghost use Rattle.windows.specs.Scripts.{steps_from};
-ghost use Rattle.windows.specs.Windows.{opened as windowWith};
+ghost use Rattle.windows.specs.Windows.{opened as window_with};
 ghost use Rattle.browser.specs.Ends.{finished, server_outs_of};
 ghost use Rattle.browser.specs.Halves.{server_outs_to, unreadable_number, steps_fault, read_fault, answer_fault};
 ghost use Rattle.browser.specs.Needs.{ready_for};
@@ -125,7 +125,7 @@ impl Browser {
     // A window more, with this page: one that can't be read gives it a script that does nothing, and has a number.
     fn add(&mut self, need: &Need, page: &[u8]) -> u8
         requires { vec_len self.old.windows < 16 }
-        ensures part { part_of self.new ≡ with-windows ((part_of self.old).windows ++ (windowWith (number_of need.now.site) (text_of need.now.path) (steps_from (Some page.now)) ∷ [])) (part_of self.old) }
+        ensures part { part_of self.new ≡ with_windows ((part_of self.old).windows ++ (window_with (number_of need.now.site) (text_of need.now.path) (steps_from (Some page.now)) ∷ [])) (part_of self.old) }
         ensures fault { result ≡ steps_fault (page_in page.now) }
         ensures rest { self.new.table ≡ self.old.table }
     {

@@ -3,7 +3,7 @@ ghost use Rattle.std.specs.Prelude.{◌≡◌};
 ghost use Rattle.std.specs.Option.{option_map};
 ghost use Rattle.addresses.specs.Views.{site_of};
 ghost use Rattle.bounded.specs.Numbers.{number_of};
-ghost use Rattle.requests.specs.Views.{asking_of as askingBy};
+ghost use Rattle.requests.specs.Views.{asking_of as asking_by};
 ghost use Rattle.storage.specs.Storage.{tokens_of};
 ghost use Rattle.browser.specs.Parts.{sites_in};
 ghost use Rattle.browser.specs.Values.{need_of};
@@ -38,7 +38,7 @@ impl Browser {
 
     // The request that is made of a need.
     pub(crate) fn asking<'a>(&'a self, need: &'a Need) -> Request<'a>
-        ensures { askingBy result ≡ asking_of (sites_in self.now) (need_of (tokens_of self.now.tokens) need.now) }
+        ensures { asking_by result ≡ asking_of (sites_in self.now) (need_of (tokens_of self.now.tokens) need.now) }
     {
         let site = self.site(need.site);
         let origin = self.origin(need.from);
