@@ -1,12 +1,9 @@
-ghost use Rattle.std.specs.Prelude.{◌≡◌, ◌≤◌, length};
+use crate::fixed::FixedVec;
 
 mod make;
 
-// At most N bytes.
+// At most N bytes. By value, since a turn claims no memory.
 #[derive(Clone, Copy)]
 pub struct Text<const N: usize> {
-    len: usize,
-    bytes: [u8; N],
-    ghost fits: { len ≤ N },
-    ghost full: { length bytes ≡ N },
+    bytes: FixedVec<u8, N>,
 }
