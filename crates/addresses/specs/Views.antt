@@ -1,5 +1,7 @@
 -- What the code's values stand for. Assumes nothing.
-use Rattle.std.specs.Prelude.{ℕ, List, Ok, Err, Result}
+use Rattle.std.specs.Prelude.{ℕ, Bool, List, Ok, Err, Result, nat_eq}
+use Rattle.std.specs.Ordering.{on, eq_of_both}
+use Rattle.std.specs.Cmp.Lexicographic.{pointwise}
 use Rattle.addresses.specs.declared.Address.{Address}
 use Rattle.addresses.specs.declared.Site.{Site}
 use Rattle.addresses.specs.declared.AddressFault.{AddressFault}
@@ -14,6 +16,10 @@ address_of a = (a.host.now, a.port, a.path.now)
 
 abbrev pub site_of : Site → List ℕ × ℕ
 site_of a = (a.host.now, a.port)
+
+-- are host and port the same?
+abbrev pub site_eq : Site → Site → Bool
+site_eq = eq_of_both (on (λ s. s.port) nat_eq) (on (λ s. s.host.now) (pointwise nat_eq))
 
 abbrev pub answer_of : Result Address AddressFault → Answer (List ℕ × ℕ × List ℕ)
 answer_of (Ok a) = Read (address_of a)

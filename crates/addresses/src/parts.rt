@@ -9,8 +9,7 @@ use octets::{Class, split, strip};
 fn is_label(l: &[u8]) -> bool
     ensures { result ≡ label_ok l.now }
 {
-    let n = l.len();
-    n > 0 && n <= 63 && l[0] != b'-' && l[n - 1] != b'-'
+    !l.is_empty() && l.len() <= 63 && !l.starts_with(b"-") && !l.ends_with(b"-")
 }
 
 // 1 to 8 labels with dots between.
@@ -37,10 +36,7 @@ fn read_port(s: &[u8]) -> Option<u16>
     if s.is_empty() || s[0] == b'0' {
         return None;
     }
-    match read_number(s, 65535) {
-        Some(n) => Some(n as u16),
-        None => None,
-    }
+    read_number(s, u64::from(u16::MAX)).map(|n| n as u16)
 }
 
 // The port after a colon, or 443, and what follows.
@@ -51,8 +47,5 @@ pub(crate) fn port_then(s: &[u8]) -> Option<(u16, &[u8])>
         return Some((443, s));
     };
     let (digits, rest) = split(Class::Digit, t);
-    let Some(port) = read_port(digits) else {
-        return None;
-    };
-    Some((port, rest))
+    Some((read_port(digits)?, rest))
 }

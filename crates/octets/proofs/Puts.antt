@@ -1,13 +1,12 @@
 -- Pieces written one after another. Assumes nothing.
 use Rattle.std.proofs.Common.{◌≡◌, ℕ, ◌+◌, ◌-◌, ◌<◌, ◌≤◌, true, cond, leb, List, [], ◌++◌, length, get_or, take, drop, Some, None, sym, refl, ap, ◌∙◌, append_assoc, add-zero, zero-add, arith, length-append, Bor}
-use native.Mathlib.Nat.{sub-zero}
 use borrow.Rule.Slice.PartMut.{put_mid}
 use Rattle.std.specs.List.{flat_map}
-use Rattle.std.proofs.lemmas.List.{at_drop_more, at_drop_all, take-append-drop, drop-drop}
+use Rattle.std.proofs.lemmas.List.{at_drop_more, take-append-drop, drop-drop}
 use Rattle.std.proofs.lemmas.Slice.{take-put_mid, drop-put_mid}
-use Rattle.std.proofs.lemmas.Bool.{cond-true, cond-false, le-leb, lt-leb, leb-true}
+use Rattle.std.proofs.lemmas.Bool.{cond-true, cond-false, lt-leb, leb-true}
 use Rattle.std.proofs.lemmas.Bool.Decides.{nat_tests}
-use Rattle.octets.specs.Buffers.{room_after, over, written, count, written_from, count_from}
+use Rattle.octets.specs.Buffers.{room_after, over, written}
 use Rattle.octets.proofs.Options.{cond-some}
 
 abbrev pub Pieces : Type 0
@@ -28,9 +27,6 @@ room-more p q room h =
 pub room-none : (p q : List ℕ) (room : ℕ) → room < length p → room_after (p ++ q) room ≡ None
 room-none p q room h = cond-false _ _ _ (lt-leb (length (p ++ q)) room (omega (arith, length-append p q)))
 
-pub room-nothing : (room : ℕ) → room_after [] room ≡ Some room
-room-nothing room = cond-true _ _ _ (le-leb 0 room (omega arith)) ∙ ap Some (sub-zero room)
-
 pub room_fits : (t : List ℕ) (n k : ℕ) → Some k ≡ room_after t n → length t ≤ n
 room_fits t n k e = leb-true (length t) n (cond-some (leb (length t) n) (Some (n - length t)) k (sym e)).0
 
@@ -49,16 +45,9 @@ over-over a xs p t h = ap (λ l. over (a + length p) (take a xs ++ (p ++ l)) t) 
 pub over_none : (a : ℕ) (xs : List ℕ) → over a xs [] ≡ xs
 over_none a xs = ap (λ n. take a xs ++ drop n xs) (add-zero a) ∙ take-append-drop a xs
 
--- from the front on
-pub written_start : (t out : List ℕ) → written_from 0 t out ≡ written t out
-written_start t out = λ i. cond (leb (zero-add (length t) i) (length out)) (t ++ drop (zero-add (length t) i) out) out
-
--- what fits is written
+-- what fits is written, from the front on
 pub over-written : (t out : List ℕ) → leb (length t) (length out) ≡ true → over 0 out t ≡ written t out
 over-written t out fits = ap (λ n. t ++ drop n out) (zero-add (length t)) ∙ sym (cond-true _ _ _ fits)
-
-pub count_start : (t out : List ℕ) → count_from 0 t out ≡ count t out
-count_start t out = λ i. cond (leb (zero-add (length t) i) (length out)) (Some (zero-add (length t) i)) None
 
 -- what the checker reads past the end of the pieces
 abbrev pub nil : Bor (List ℕ)
@@ -66,9 +55,6 @@ nil = record { ref_ptr = (0, 0); now = [] }
 
 pub text_more : (ps : Pieces) (i : ℕ) → i < length ps → text_of (drop i ps) ≡ (get_or ps i nil).now ++ text_of (drop (i + 1) ps)
 text_more ps i h = at_drop_more text_of ps i nil h
-
-pub text_all : (ps : Pieces) (i : ℕ) → length ps ≤ i → text_of (drop i ps) ≡ []
-text_all ps i h = at_drop_all text_of ps i h
 
 pub text_long : (ps : Pieces) (i : ℕ) → i < length ps → length (text_of (drop i ps)) ≡ length (get_or ps i nil).now + length (text_of (drop (i + 1) ps))
 text_long ps i h = ap length (text_more ps i h) ∙ length-append (get_or ps i nil).now (text_of (drop (i + 1) ps))

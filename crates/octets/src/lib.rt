@@ -39,21 +39,19 @@ fn is_token(b: u8) -> bool
     if b >= b'^' {
         return b <= b'z' || b == b'|' || b == b'~';
     }
-    match b {
-        b'A'..=b'Z' | b'-'..=b'.' | b'0'..=b'9' | b'!' | b'#'..=b'\'' | b'*'..=b'+' => true,
-        _ => false,
-    }
+    matches!(b, b'A'..=b'Z' | b'-'..=b'.' | b'0'..=b'9' | b'!' | b'#'..=b'\'' | b'*'..=b'+')
 }
 
+// The class is a value and no closure, since contracts name it, as `has c`.
 pub fn is_of(c: Class, b: u8) -> bool
     ensures { result ≡ has c b }
 {
     match c {
-        Class::Digit => b >= b'0' && b <= b'9',
-        Class::Label => b >= b'a' && b <= b'z' || b >= b'0' && b <= b'9' || b == b'-',
-        Class::Name => b >= b'a' && b <= b'z' || b >= b'0' && b <= b'9' || b == b'-' || b == b'.',
-        Class::Visible => b >= b'!' && b <= b'~',
-        Class::Text => b >= b' ' && b != 127 || b == b'\t',
+        Class::Digit => b.is_ascii_digit(),
+        Class::Label => b.is_ascii_lowercase() || b.is_ascii_digit() || b == b'-',
+        Class::Name => b.is_ascii_lowercase() || b.is_ascii_digit() || b == b'-' || b == b'.',
+        Class::Visible => b.is_ascii_graphic(),
+        Class::Text => !b.is_ascii_control() || b == b'\t',
         Class::Token => is_token(b),
         Class::Blank => b == b'\t' || b == b' ',
         Class::Line => b != b'\n',
@@ -65,12 +63,7 @@ pub fn span(c: Class, s: &[u8]) -> usize
     ensures is { result ≡ prefix_len (has c) s.now }
     ensures within { result ≤ length s.now }
 {
-    for (i, b) in s.iter().enumerate() {
-        if !is_of(c, *b) {
-            return i;
-        }
-    }
-    s.len()
+    s.iter().take_while(|b| is_of(c, **b)).count()
 }
 
 // The bytes of the class at the front, and what follows them.

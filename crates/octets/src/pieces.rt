@@ -7,13 +7,10 @@ ghost use Rattle.octets.specs.Buffers.{room_after, written, count, written_from,
 pub fn room_after(pieces: &[&[u8]], n: usize) -> Option<usize>
     ensures { result ≡ room_after (flat_map (λ x. x.now) pieces.now) n }
 {
+    // A loop: for a `try_fold` no proof was found.
     let mut room = n;
     for p in pieces {
-        let k = p.len();
-        if k > room {
-            return None;
-        }
-        room -= k;
+        room = room.checked_sub(p.len())?;
     }
     Some(room)
 }
@@ -23,12 +20,9 @@ pub fn put_from(out: &mut [u8], from: usize, pieces: &[&[u8]]) -> Option<usize>
     ensures answer { result ≡ count_from from (flat_map (λ x. x.now) pieces.now) out.old }
     ensures after { out.new ≡ written_from from (flat_map (λ x. x.now) pieces.now) out.old }
 {
-    let Some(room) = out.len().checked_sub(from) else {
-        return None;
-    };
-    let Some(_) = room_after(pieces, room) else {
-        return None;
-    };
+    let room = out.len().checked_sub(from)?;
+    room_after(pieces, room)?;
+    // A place in the buffer, and not the number of a piece: it moves on by the length of each.
     let mut at = from;
     for p in pieces {
         let k = p.len();

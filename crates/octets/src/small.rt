@@ -1,7 +1,8 @@
 // A short text made of digits, for a number that is written between other pieces.
 ghost use Rattle.std.specs.Prelude.{◌≡◌, ◌<◌, ◌≤◌, [], ◌∷◌, length, drop, decimal};
 
-// A text of up to 21 bytes, at the end of an array: the digits of any number, and one byte before them.
+// A text of up to 21 bytes, at the end of an array: the digits of any number, and one byte before them. By value, since
+// writers claim no memory; the digits of `itoa` would stay in its own buffer, and be copied from there.
 #[derive(Clone, Copy)]
 pub struct SmallText {
     bytes: [u8; 21],
@@ -26,14 +27,15 @@ impl SmallText {
     {
         let mut bytes = [0; 21];
         let mut at: usize = 21;
+        // From the last digit to the first: how many there are is known at the end.
         let mut m = n;
         while m >= 10 {
             at -= 1;
-            bytes[at] = 48 + (m % 10) as u8;
+            bytes[at] = b'0' + (m % 10) as u8;
             m /= 10;
         }
         at -= 1;
-        bytes[at] = 48 + m as u8;
+        bytes[at] = b'0' + m as u8;
         SmallText { bytes, from: at }
     }
 
@@ -48,17 +50,15 @@ impl SmallText {
     pub fn decimal_after(b: u8, n: u64) -> SmallText
         ensures { drop result.from result.bytes ≡ b ∷ decimal n }
     {
-        let d = SmallText::digits(n);
-        let mut bytes = d.bytes;
-        let from = d.from - 1;
-        bytes[from] = b;
-        SmallText { bytes, from }
+        let mut text = SmallText::digits(n);
+        text.from -= 1;
+        text.bytes[text.from] = b;
+        text
     }
 
     pub fn as_bytes(&self) -> &[u8]
         ensures { result.now ≡ drop self.now.from self.now.bytes }
     {
-        let (_, text) = self.bytes.split_at(self.from);
-        text
+        &self.bytes[self.from..]
     }
 }

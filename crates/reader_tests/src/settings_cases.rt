@@ -8,22 +8,12 @@ use std::test::Fail;
 const TEXT: &[u8] =
     b"site https://a.example/\nopen https://b.example:8080/x\nopen https://a.example:443/\nopen https://b.example:8080/y\nturn 0\n999999999 times all\nturn 15\n";
 
-fn number(f: Fault) -> u8 {
-    match f {
-        Fault::Unreadable => 1,
-        Fault::TooMany => 2,
-    }
-}
-
-fn refused(rt: &impl Abort, text: &[u8], fault: u8, line: usize) -> Result<(), Fail> {
-    match read_settings(text) {
-        Ok(_) => Err(Fail::new("bad settings are read")),
-        Err(r) => {
-            assert!(rt; number(r.fault) == fault);
-            assert!(rt; r.line == line);
-            Ok(())
-        }
-    }
+fn refused(rt: &impl Abort, text: &[u8], fault: Fault, line: usize) -> Result<(), Fail> {
+    let Err(refusal) = read_settings(text) else {
+        return Err(Fail::new("bad settings are read"));
+    };
+    assert_eq!(rt; refusal, Refusal { fault, line });
+    Ok(())
 }
 
 // Sites are numbered as they are first named, and the turns come line by line.
@@ -33,17 +23,12 @@ fn good(rt: HostRuntime) -> Result<(), Fail> {
         return Err(Fail::new("good settings are refused"));
     };
     let opens: [(usize, &[u8]); 3] = [(1, b"/x"), (0, b"/"), (1, b"/y")];
-    for (i, (site, path)) in opens.iter().enumerate() {
-        let Some(o) = s.opens.get(i) else {
-            return Err(Fail::new("a window is missing"));
-        };
-        assert!(rt; o.site == *site);
-        assert!(rt; o.path == *path);
+    assert_eq!(rt; s.opens.as_slice().len(), 3);
+    for (o, (site, path)) in s.opens.as_slice().iter().zip(opens) {
+        assert!(rt; o.site == site);
+        assert!(rt; o.path == path);
     }
-    assert!(rt; s.opens.get(3).is_none());
-    let Some(b) = s.sites.get(1) else {
-        return Err(Fail::new("a site is missing"));
-    };
+    let b = s.sites.get(1).ok_or("a site is missing")?;
     assert!(rt; b.host == b"b.example".as_slice());
     assert!(rt; b.port == 8080);
     assert!(rt; s.sites.get(2).is_none());
@@ -64,18 +49,13 @@ fn good(rt: HostRuntime) -> Result<(), Fail> {
 // A text that is cut is read if it is cut after a newline; else the last line is the fault.
 #[test]
 fn cut(rt: HostRuntime) -> Result<(), Fail> {
-    let mut line: usize = 1;
-    let mut whole = true;
     for n in 0..TEXT.len() {
-        let (front, rest) = TEXT.split_at(n);
-        if whole {
+        let front = &TEXT[0..n];
+        if front.is_empty() || front.ends_with(b"\n") {
             assert!(rt; read_settings(front).is_ok());
         } else {
-            refused(&rt, front, 1, line)?;
-        }
-        whole = rest.first() == Some(&b'\n');
-        if whole {
-            line = line.saturating_add(1);
+            let line = front.split(|b| *b == b'\n').count();
+            refused(&rt, front, Fault::Unreadable, line)?;
         }
     }
     Ok(())
@@ -110,7 +90,7 @@ fn bad(rt: HostRuntime) -> Result<(), Fail> {
         (b"site https://a/\nsite https://A/\n", 2),
     ];
     for (text, line) in texts {
-        refused(&rt, text, 1, line)?;
+        refused(&rt, text, Fault::Unreadable, line)?;
     }
     Ok(())
 }
@@ -120,9 +100,9 @@ fn bad(rt: HostRuntime) -> Result<(), Fail> {
 fn many(rt: HostRuntime) -> Result<(), Fail> {
     let mut sites = b"".to_vec(rt.alloc())?;
     let mut opens = b"".to_vec(rt.alloc())?;
-    for i in 0..16u8 {
+    for letter in b'a'..=b'p' {
         sites.extend_from_slice(b"site https://a")?;
-        sites.push(97 + i)?;
+        sites.push(letter)?;
         sites.extend_from_slice(b"/\n")?;
         opens.extend_from_slice(b"open https://a/\n")?;
     }
@@ -131,13 +111,13 @@ fn many(rt: HostRuntime) -> Result<(), Fail> {
     sites.extend_from_slice(b"site https://ap:443/\n")?;
     assert!(rt; read_settings(sites.as_slice()).is_ok());
     sites.extend_from_slice(b"site https://aq/\nturn x\n")?;
-    refused(&rt, sites.as_slice(), 2, 18)?;
+    refused(&rt, sites.as_slice(), Fault::TooMany, 18)?;
     opens.extend_from_slice(b"site https://a/\nopen https://a\n")?;
-    refused(&rt, opens.as_slice(), 1, 18)?;
+    refused(&rt, opens.as_slice(), Fault::Unreadable, 18)?;
     let mut opens = opens;
     opens.truncate(16 * 16);
     opens.extend_from_slice(b"open https://a/\n")?;
-    refused(&rt, opens.as_slice(), 2, 17)
+    refused(&rt, opens.as_slice(), Fault::TooMany, 17)
 }
 
 // What is written names the sites first; a buffer that is too small gets nothing.
