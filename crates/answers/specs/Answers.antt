@@ -33,12 +33,21 @@ pub record Known : Type 0 where
 abbrev pub unknown : Kind → Known
 unknown kind = record { kind = kind; length = None; token = None; allowed = None }
 
+-- a number within the limit; else fault 6
+abbrev pub in_limit : Option ℕ → Answer ℕ
+in_limit None = Fault 6
+in_limit (Some n) = Read n
+
 -- a length within the limit; else fault 6
 abbrev pub length_from : Known → Option ℕ → Answer Known
 length_from f None = Fault 6
 length_from f (Some n) = Read (record { kind = f.kind; length = Some n; token = f.token; allowed = f.allowed })
 
--- a length has digits only
+-- a length has digits only, and is within the limit
+abbrev pub length_of : Kind → List ℕ → Answer ℕ
+length_of kind v = cond (nat_lt 0 (length v) && prefix_len (has Digit) v == length v) (in_limit (number (limit kind) 0 v)) (Fault 7)
+
+-- the field of that length; a length over the limit is fault 6
 abbrev pub length_field : Known → List ℕ → Answer Known
 length_field f v = cond (nat_lt 0 (length v) && prefix_len (has Digit) v == length v) (length_from f (number (limit f.kind) 0 v)) (Fault 7)
 

@@ -4,7 +4,7 @@
 ghost use Rattle.std.specs.Prelude.{◌≡◌};
 ghost use Rattle.std.specs.Option.{option_map};
 ghost use Rattle.lines.specs.Views.{answer_of};
-ghost use Rattle.answers.specs.Answers.{limit, Known, length_field, token_field, allows_of, allowed_field, taking, code_then, status_then, read_answer};
+ghost use Rattle.answers.specs.Answers.{limit, Known, length_of, allows_of, taking, code_then, status_then, read_answer};
 ghost use Rattle.answers.specs.Views.{allows_by, known_of, content_of};
 
 pub mod seen;
@@ -13,7 +13,7 @@ pub mod write;
 
 use addresses::{Site, read_site};
 use lines::heads::{Fields, read_fields};
-use lines::{MessageFault, is_token, line_then, same_name};
+use lines::{MessageFault, line_then, same_name, token_of};
 use octets::decimal::read_number;
 use octets::{Class, span, split, strip};
 
@@ -44,12 +44,12 @@ pub struct Response<'a> {
 #[derive(Clone, Copy)]
 struct Heads<'a> {
     kind: Kind,
-    length: Option<u32>,
+    length: Option<u64>,
     token: Option<&'a [u8]>,
     allowed: Option<Allowed<'a>>,
 }
 
-fn limit_of(kind: Kind) -> u32
+fn limit_of(kind: Kind) -> u64
     ensures { result ≡ limit kind }
 {
     match kind {
@@ -58,49 +58,24 @@ fn limit_of(kind: Kind) -> u32
     }
 }
 
-fn length_field(h: &mut Heads<'_>, v: &[u8]) -> Result<(), MessageFault>
-    ensures { answer_of (λ _. known_of h.new) result ≡ length_field (known_of h.old) v.now }
+// A length has digits only, and is within its limit. The two are told apart, so digits are looked for first, and not
+// only up to the limit.
+fn length_of(kind: Kind, v: &[u8]) -> Result<u64, MessageFault>
+    ensures { answer_of (λ n. n) result ≡ length_of kind v.now }
 {
     if v.is_empty() || span(Class::Digit, v) != v.len() {
         return Err(MessageFault::Value);
     }
-    let Some(n) = read_number(v, limit_of(h.kind)) else {
-        return Err(MessageFault::Unreadable);
-    };
-    h.length = Some(n);
-    Ok(())
-}
-
-fn token_field<'a>(h: &mut Heads<'a>, v: &'a [u8]) -> Result<(), MessageFault>
-    ensures { answer_of (λ _. known_of h.new) result ≡ token_field (known_of h.old) v.now }
-{
-    if !is_token(v) {
-        return Err(MessageFault::Value);
-    }
-    h.token = Some(v);
-    Ok(())
+    read_number(v, limit_of(kind)).ok_or(MessageFault::Unreadable)
 }
 
 fn allowed_of(v: &[u8]) -> Option<Allowed<'_>>
     ensures { option_map allows_by result ≡ allows_of v.now }
 {
-    if v.len() == 1 && v[0] == b'*' {
+    if v == b"*".as_slice() {
         return Some(Allowed::Everybody);
     }
-    let Some(site) = read_site(v) else {
-        return None;
-    };
-    Some(Allowed::Site(site))
-}
-
-fn allowed_field<'a>(h: &mut Heads<'a>, v: &'a [u8]) -> Result<(), MessageFault>
-    ensures { answer_of (λ _. known_of h.new) result ≡ allowed_field (known_of h.old) (allows_of v.now) }
-{
-    let Some(a) = allowed_of(v) else {
-        return Err(MessageFault::Value);
-    };
-    h.allowed = Some(a);
-    Ok(())
+    read_site(v).map(Allowed::Site)
 }
 
 impl<'a> Fields<'a> for Heads<'a> {
@@ -115,13 +90,11 @@ impl<'a> Fields<'a> for Heads<'a> {
             return Err(MessageFault::Unreadable);
         }
         if same_name(name, b"content-length") {
-            return length_field(self, value);
-        }
-        if same_name(name, b"set-cookie") {
-            return token_field(self, value);
-        }
-        if same_name(name, b"access-control-allow-origin") {
-            return allowed_field(self, value);
+            self.length = Some(length_of(self.kind, value)?);
+        } else if same_name(name, b"set-cookie") {
+            self.token = Some(token_of(value).ok_or(MessageFault::Value)?);
+        } else if same_name(name, b"access-control-allow-origin") {
+            self.allowed = Some(allowed_of(value).ok_or(MessageFault::Value)?);
         }
         Ok(())
     }
@@ -134,48 +107,31 @@ fn code_then(t: &[u8]) -> Option<(u16, &[u8])>
         return None;
     }
     let (digits, end) = split(Class::Digit, t);
-    let Some(n) = read_number(digits, 999) else {
-        return None;
-    };
-    let Some(u) = strip(end, b" ") else {
-        return None;
-    };
-    let Some((_, rest)) = line_then(u) else {
-        return None;
-    };
-    Some((n as u16, rest))
+    let code = read_number(digits, 999)? as u16;
+    let (_, rest) = line_then(strip(end, b" ")?)?;
+    Some((code, rest))
 }
 
 fn status_then(s: &[u8]) -> Option<(u16, &[u8])>
     ensures { option_map (λ p. (p.0, p.1.now)) result ≡ status_then s.now }
 {
-    let Some(t) = strip(s, b"HTTP/1.1 ") else {
-        return None;
-    };
-    code_then(t)
+    code_then(strip(s, b"HTTP/1.1 ")?)
 }
 
 // Reads an answer to its end, or its first fault.
 pub fn read_answer<'a>(kind: Kind, s: &'a [u8]) -> Result<Response<'a>, MessageFault>
     ensures { answer_of content_of result ≡ read_answer kind s.now }
 {
-    let Some((code, rest)) = status_then(s) else {
-        return Err(MessageFault::Unreadable);
-    };
+    let (code, rest) = status_then(s).ok_or(MessageFault::Unreadable)?;
     let none = Heads {
         kind,
         length: None,
         token: None,
         allowed: None,
     };
-    let (h, body) = match read_fields(none, rest) {
-        Ok(p) => p,
-        Err(e) => return Err(e),
-    };
-    let Some(n) = h.length else {
-        return Err(MessageFault::Unreadable);
-    };
-    if body.len() != n as usize {
+    let (h, body) = read_fields(none, rest)?;
+    let n = h.length.ok_or(MessageFault::Unreadable)?;
+    if body.len() as u64 != n {
         return Err(MessageFault::Unreadable);
     }
     Ok(Response {

@@ -5,19 +5,17 @@ ghost use Rattle.answers.specs.Seen.{allows, lets_see};
 ghost use Rattle.answers.specs.Views.{content_of};
 
 use crate::{Allowed, Kind, Response, read_answer};
-use addresses::{Site, same_site};
+use addresses::Site;
 
 impl Response<'_> {
     // Does the answer allow the asking site to see it?
     pub fn allows(self, asker: Site<'_>) -> bool
         ensures { result ≡ allows (content_of self.entry).allowed (site_of asker.entry) }
     {
-        let Some(allowed) = self.allowed else {
-            return false;
-        };
-        match allowed {
-            Allowed::Everybody => true,
-            Allowed::Site(site) => same_site(site, asker),
+        match self.allowed {
+            None => false,
+            Some(Allowed::Everybody) => true,
+            Some(Allowed::Site(site)) => site == asker,
         }
     }
 }
@@ -26,6 +24,7 @@ impl Response<'_> {
 pub fn lets_see(s: &[u8], asker: Site<'_>) -> bool
     ensures { result ≡ lets_see s.now (site_of asker.entry) }
 {
+    // By `match`: with `is_ok_and` no proof was found.
     match read_answer(Kind::Asked, s) {
         Ok(answer) => answer.allows(asker),
         Err(_) => false,

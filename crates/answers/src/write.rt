@@ -13,35 +13,36 @@ use addresses::is_site;
 use lines::token_fits;
 use lines::written::{Line, put_message};
 
+// By hand: a number is printed without the zeros that a code below 100 has in front.
 fn three_digits(n: u16) -> [u8; 3]
     requires { n ≤ 999 }
     ensures { result ≡ three_digits n }
 {
     [
-        48 + (n / 100) as u8,
-        48 + (n / 10 % 10) as u8,
-        48 + (n % 10) as u8,
+        b'0' + (n / 100) as u8,
+        b'0' + (n / 10 % 10) as u8,
+        b'0' + (n % 10) as u8,
     ]
 }
 
 fn allowed_line(allowed: Option<Allowed<'_>>) -> Line<'_>
     ensures { line_text result ≡ allowed_line (option_map allows_by allowed.entry) }
 {
-    let Some(a) = allowed else {
+    // in two steps: one `match` over the three cases gets no proof
+    let Some(allowed) = allowed else {
         return Line::none();
     };
-    let Allowed::Site(site) = a else {
-        return Line::of(b"access-control-allow-origin: ", b"*", b"\r\n");
-    };
-    Line::of_site(b"access-control-allow-origin: https://", site)
+    match allowed {
+        Allowed::Everybody => Line::of(b"access-control-allow-origin: ", b"*", b"\r\n"),
+        Allowed::Site(site) => Line::of_site(b"access-control-allow-origin: https://", site),
+    }
 }
 
 fn allowed_fits(allowed: Option<Allowed<'_>>) -> bool
     ensures { result ≡ allows_fits (option_map allows_by allowed.entry) }
 {
     match allowed {
-        None => true,
-        Some(Allowed::Everybody) => true,
+        None | Some(Allowed::Everybody) => true,
         Some(Allowed::Site(site)) => is_site(site),
     }
 }
@@ -52,7 +53,7 @@ fn can_write(kind: Kind, a: Response<'_>) -> bool
     a.code <= 999
         && token_fits(a.token)
         && allowed_fits(a.allowed)
-        && a.body.len() <= limit_of(kind) as usize
+        && a.body.len() as u64 <= limit_of(kind)
 }
 
 // Writes an answer at the front of the buffer, if each part is within its rules and all fits; else nothing.
@@ -69,13 +70,5 @@ pub fn write_answer(out: &mut [u8], kind: Kind, a: Response<'_>) -> Option<usize
     let token = Line::of_token(b"set-cookie: ", a.token);
     let allowed = allowed_line(a.allowed);
     let length = Line::of_number(b"content-length: ", a.body.len() as u64, b"\r\n\r\n");
-    put_message(
-        out,
-        &status,
-        &token,
-        &allowed,
-        &Line::none(),
-        &length,
-        a.body,
-    )
+    put_message(out, &[status, token, allowed, length], a.body)
 }

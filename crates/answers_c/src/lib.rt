@@ -11,15 +11,14 @@ ghost use Rattle.answers_c.specs.Summary.{token_number, allowed_number, summary}
 use answers::{Allowed, Kind, read_answer};
 use lines::MessageFault;
 
+// Numbers, since C reads them: 1 and the length of the token, or 0 for none.
 fn token_number(token: Option<&[u8]>) -> u64
     ensures { result ≡ token_number (option_map (λ x. x.now) token.entry) }
 {
-    match token {
-        Some(t) => 1 + (t.len() % 128) as u64,
-        None => 0,
-    }
+    token.map_or(0, |t| 1 + (t.len() % 128) as u64)
 }
 
+// By name: a From would need one of its two types to be of this crate.
 fn allowed_number(allowed: Option<Allowed<'_>>) -> u64
     ensures { result ≡ allowed_number (option_map allows_by allowed.entry) }
 {

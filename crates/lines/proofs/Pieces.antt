@@ -1,21 +1,15 @@
 -- The pieces of lines, written one after another. Assumes nothing.
-use Rattle.std.proofs.Common.{◌≡◌, ℕ, leb, List, ◌++◌, length, take, drop, IfSome, Some, None, Option, sym, ap, ◌∙◌, subst, ⊎_elim, append_assoc}
+use Rattle.std.proofs.Common.{◌≡◌, ℕ, ◌+◌, ◌≤◌, leb, List, ◌++◌, length, take, drop, IfSome, Some, None, Option, sym, ap, ◌∙◌, subst, ⊎_elim}
 use Rattle.std.proofs.lemmas.List.{take_at}
-use Rattle.std.proofs.lemmas.Bool.{cond-true, cond-false, cases_Bool}
-use Rattle.octets.specs.Buffers.{written, count}
+use Rattle.std.proofs.lemmas.Bool.{cond-true, cond-false, cases_Bool, le-leb}
+use Rattle.octets.specs.Buffers.{over, written, count, written_from, count_from}
 use Rattle.octets.proofs.Options.{none-some, some_same}
-use Rattle.octets.specs.Texts.{text_of}
-use Rattle.lines.specs.declared.written.Line.{Line}
-use Rattle.lines.specs.Views.{line_text}
 
--- the pieces of a line, with its digits d, and what follows
-abbrev pub pieces : Line → List ℕ → List ℕ → List ℕ
-pieces l d rest = l.start.now ++ (l.value.now ++ (d ++ (l.end.now ++ rest)))
-
-pub line_pieces : (l : Line) (d rest more : List ℕ) → d ≡ text_of l.digits → rest ≡ more → pieces l d rest ≡ line_text l ++ more
-line_pieces l d rest more e r =
-    let regroup : (s v x t m : List ℕ) → s ++ (v ++ (x ++ (t ++ m))) ≡ (s ++ (v ++ (x ++ t))) ++ m = λ s v x t m. simp append_assoc in
-    (λ i. pieces l (e i) (r i)) ∙ regroup l.start.now l.value.now (text_of l.digits) l.end.now more
+-- one text more, in pieces ps, from a place on
+pub put_more : (at next : ℕ) (out new p ps : List ℕ) → ps ≡ p → at + length p ≤ length out → Some next ≡ count_from at ps out → new ≡ written_from at ps out → (next ≡ at + length p) × (new ≡ over at out p)
+put_more at next out new p ps e h a w =
+    let fits = le-leb (at + length p) (length out) h in
+    (some_same next (at + length p) (a ∙ ap (λ t. count_from at t out) e ∙ cond-true _ _ _ fits), w ∙ ap (λ t. written_from at t out) e ∙ cond-true _ _ _ fits)
 
 -- what was written stands at the front of the buffer
 front-written : (t out : List ℕ) (n : ℕ) → Some n ≡ count t out → take n (written t out) ≡ t

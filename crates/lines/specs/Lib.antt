@@ -1,3 +1,4 @@
 pub mod Lines
 pub mod Heads
 pub mod Views
+pub mod NamedLines

@@ -1,5 +1,5 @@
 -- What the code's results stand for. Assumes nothing.
-use Rattle.std.specs.Prelude.{ℕ, List, ◌++◌, Ok, Err, Result}
+use Rattle.std.specs.Prelude.{ℕ, List, [], ◌∷◌, ◌++◌, Ok, Err, Result}
 use Rattle.std.specs.Borrow.{Bor}
 use Rattle.octets.specs.Texts.{text_of}
 use Rattle.lines.specs.declared.written.Line.{Line}
@@ -24,3 +24,8 @@ with_rest f p = (f p.0, p.1.now)
 -- the bytes of a line's pieces
 abbrev pub line_text : Line → List ℕ
 line_text l = l.start.now ++ (l.value.now ++ (text_of l.digits ++ l.end.now))
+
+-- the bytes of lines one after another, and what follows them
+abbrev pub lines_then : List Line → List ℕ → List ℕ
+lines_then [] rest = rest
+lines_then (l ∷ ls) rest = line_text l ++ lines_then ls rest

@@ -5,7 +5,8 @@ ghost use Rattle.lines.specs.Heads.{fields, field_taken, Enough};
 ghost use Rattle.lines.specs.Lines.{among, names_of};
 ghost use Rattle.lines.specs.Views.{answer_of, with_rest};
 
-use crate::{MessageFault, field_of, is_named, named_line, slot_of};
+use crate::line::parts::named_line;
+use crate::{MessageFault, is_named, slot_of};
 
 // What the fields of a message say, taken one after another.
 pub trait Fields<'a>: Sized + Copy {
@@ -34,15 +35,11 @@ fn take_field<'a, F: Fields<'a>>(
     requires { marked ≡ false → among name.now (names_of k s.now) ≡ false }
     ensures { answer_of (λ _. F.Fields.known fields.new) result ≡ field_taken F.Fields.taking (names_of k s.now) (F.Fields.known fields.old) (name.now, value.now) }
 {
-    match fields.take(name, value) {
-        Ok(_) => {
-            if marked && is_named(s, k, name) {
-                return Err(MessageFault::Value);
-            }
-            Ok(())
-        }
-        Err(e) => Err(e),
+    fields.take(name, value)?;
+    if marked && is_named(s, k, name) {
+        return Err(MessageFault::Value);
     }
+    Ok(())
 }
 
 // All fields up to the empty line, and what follows it.
@@ -52,25 +49,19 @@ pub fn read_fields<'a, F: Fields<'a>>(none: F, s: &'a [u8]) -> Result<(F, &'a [u
 {
     let mut known = none;
     let mut rest = s;
+    // a fixed table, since a reader claims no memory
     let mut marks = [false; 128];
+    // each line has a byte or more, and k lines are before this one
     for k in 0..s.len() {
-        let Some((n, line, next)) = named_line(rest) else {
-            return Err(MessageFault::Unreadable);
-        };
+        let (line, next) = named_line(rest).ok_or(MessageFault::Unreadable)?;
         if line.is_empty() {
             return Ok((known, next));
         }
-        let Some((name, value)) = field_of(n, line) else {
-            return Err(MessageFault::Unreadable);
-        };
+        let (name, value) = line.field().ok_or(MessageFault::Unreadable)?;
         let slot = slot_of(name);
-        match take_field(&mut known, marks[slot], s, k, name, value) {
-            Ok(_) => {
-                rest = next;
-                marks[slot] = true;
-            }
-            Err(e) => return Err(e),
-        }
+        take_field(&mut known, marks[slot], s, k, name, value)?;
+        rest = next;
+        marks[slot] = true;
     }
     Err(MessageFault::Unreadable)
 }

@@ -1,13 +1,14 @@
 // Messages written line by line into a lent buffer.
 ghost use Rattle.std.specs.Prelude.{◌≡◌, [], ◌++◌, decimal};
 ghost use Rattle.std.specs.Option.{option_map};
+ghost use Rattle.std.specs.List.{flat_map};
 ghost use Rattle.addresses.specs.Written.{port_text};
 ghost use Rattle.octets.specs.Buffers.{written, count};
 ghost use Rattle.lines.specs.Lines.{crlf, token_line};
-ghost use Rattle.lines.specs.Views.{line_text};
+ghost use Rattle.lines.specs.Views.{line_text, lines_then};
 
 use addresses::{Site, port_text};
-use octets::pieces::put_all;
+use octets::pieces::{put_from, room_after};
 use octets::small::SmallText;
 
 // A line in pieces: what it starts with, a value, digits, and its end. Each piece may be empty.
@@ -57,10 +58,11 @@ impl<'a> Line<'a> {
     pub fn of_token(start: &'a [u8], token: Option<&'a [u8]>) -> Line<'a>
         ensures { line_text result ≡ token_line start.now (option_map (λ x. x.now) token.entry) }
     {
-        let Some(t) = token else {
-            return Line::none();
-        };
-        Line::of(start, t, b"\r\n")
+        // by `match`: a closure that gives a struct of references gets no proof
+        match token {
+            Some(t) => Line::of(start, t, b"\r\n"),
+            None => Line::none(),
+        }
     }
 
     // The site's host, and its port unless it is 443.
@@ -74,45 +76,28 @@ impl<'a> Line<'a> {
             end: b"\r\n",
         }
     }
+
+    fn pieces(&'a self) -> [&'a [u8]; 4]
+        ensures { flat_map (λ x. x.now) result ≡ line_text self.now }
+    {
+        [self.start, self.value, self.digits.as_bytes(), self.end]
+    }
 }
 
-// Writes a message at the front of the buffer, if it fits; else nothing.
-pub fn put_message<'a>(
-    out: &mut [u8],
-    first: &'a Line<'a>,
-    a: &'a Line<'a>,
-    b: &'a Line<'a>,
-    c: &'a Line<'a>,
-    last: &'a Line<'a>,
-    body: &'a [u8],
-) -> Option<usize>
-    ensures answer { result ≡ count (line_text first.now ++ (line_text a.now ++ (line_text b.now ++ (line_text c.now ++ (line_text last.now ++ body.now))))) out.old }
-    ensures after { out.new ≡ written (line_text first.now ++ (line_text a.now ++ (line_text b.now ++ (line_text c.now ++ (line_text last.now ++ body.now))))) out.old }
+// Writes a message at the front of the buffer, its lines and then its body, if it fits; else nothing.
+pub fn put_message<'a>(out: &mut [u8], lines: &'a [Line<'a>], body: &'a [u8]) -> Option<usize>
+    ensures answer { result ≡ count (lines_then lines.now body.now) out.old }
+    ensures after { out.new ≡ written (lines_then lines.now body.now) out.old }
 {
-    put_all(
-        out,
-        &[
-            first.start,
-            first.value,
-            first.digits.as_bytes(),
-            first.end,
-            a.start,
-            a.value,
-            a.digits.as_bytes(),
-            a.end,
-            b.start,
-            b.value,
-            b.digits.as_bytes(),
-            b.end,
-            c.start,
-            c.value,
-            c.digits.as_bytes(),
-            c.end,
-            last.start,
-            last.value,
-            last.digits.as_bytes(),
-            last.end,
-            body,
-        ],
-    )
+    // Two walks: nothing is written unless all fits.
+    let mut room = out.len();
+    for line in lines {
+        room = room_after(&line.pieces(), room)?;
+    }
+    room_after(&[body], room)?;
+    let mut at = 0;
+    for line in lines {
+        at = put_from(out, at, &line.pieces())?;
+    }
+    put_from(out, at, &[body])
 }

@@ -70,9 +70,7 @@ const GOOD: [(&[u8], &[u8], u16, &[u8], &[u8], &[u8], &[u8]); 6] = [
 #[test]
 fn good(rt: HostRuntime) -> Result<(), Fail> {
     for (text, host, port, path, origin, token, body) in GOOD {
-        let Ok(q) = read_request(text) else {
-            return Err(Fail::new("a good request is refused"));
-        };
+        let q = read_request(text).ok().ok_or("a good request is refused")?;
         assert!(rt; q.site.host == host);
         assert!(rt; q.site.port == port);
         assert!(rt; q.path == path);

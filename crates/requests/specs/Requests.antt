@@ -49,6 +49,10 @@ length_from f None = Fault 6
 length_from f (Some n) = Read (record { host = f.host; origin = f.origin; token = f.token; length = Some n })
 
 -- digits that write up to 1,024
+abbrev pub length_of : List ℕ → Option ℕ
+length_of v = cond (nat_lt 0 (length v)) (number 1024 0 v) None
+
+-- the field of such a length
 abbrev pub length_field : Known → List ℕ → Answer Known
 length_field f v = cond (nat_lt 0 (length v)) (length_from f (number 1024 0 v)) (Fault 6)
 

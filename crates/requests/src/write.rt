@@ -17,19 +17,16 @@ use lines::written::{Line, put_message};
 fn origin_line(origin: Option<Site<'_>>) -> Line<'_>
     ensures { line_text result ≡ origin_line (option_map site_of origin.entry) }
 {
-    let Some(site) = origin else {
-        return Line::none();
-    };
-    Line::of_site(b"origin: https://", site)
+    match origin {
+        None => Line::none(),
+        Some(site) => Line::of_site(b"origin: https://", site),
+    }
 }
 
 fn origin_fits(origin: Option<Site<'_>>) -> bool
     ensures { result ≡ origin_fits (option_map site_of origin.entry) }
 {
-    match origin {
-        Some(site) => is_site(site),
-        None => true,
-    }
+    origin.is_none_or(is_site)
 }
 
 fn can_write(q: Request<'_>) -> bool
@@ -56,5 +53,5 @@ pub fn write_request(out: &mut [u8], q: Request<'_>) -> Option<usize>
     let origin = origin_line(q.origin);
     let token = Line::of_token(b"cookie: ", q.token);
     let length = Line::of_number(b"content-length: ", q.body.len() as u64, b"\r\n\r\n");
-    put_message(out, &first, &host, &origin, &token, &length, q.body)
+    put_message(out, &[first, host, origin, token, length], q.body)
 }

@@ -15,7 +15,7 @@ pub returns : goal.returns
 returns c =
     let body = c.args.a.body.now in
     let status = c.of-status.ensures ∙ ap (λ l. codes "HTTP/1.1 " ++ (l ++ (codes " " ++ crlf))) c.three_digits-code.ensures in
-    let e : line_text c.of-status.result ++ (line_text c.of_token-token.result ++ (line_text c.allowed_line-allowed.result ++ (line_text c.none.result ++ (line_text c.of_number-length.result ++ body)))) ≡ answer_text (content_of c.args.a) = λ i. status i ++ (c.of_token-token.ensures i ++ (c.allowed_line-allowed.ensures i ++ (c.none.ensures i ++ (c.of_number-length.ensures i ++ body)))) in
+    let e : line_text c.of-status.result ++ (line_text c.of_token-token.result ++ (line_text c.allowed_line-allowed.result ++ (line_text c.of_number-length.result ++ body))) ≡ answer_text (content_of c.args.a) = λ i. status i ++ (c.of_token-token.ensures i ++ (c.allowed_line-allowed.ensures i ++ (c.of_number-length.ensures i ++ body))) in
     let text = answer_text (content_of c.args.a) in
     let out = c.args.out.now in
     let answer : c.put_message.result ≡ count text out = c.put_message.ensures.answer ∙ ap (λ t. count t out) e in
