@@ -1,4 +1,3 @@
-pub mod Graphic
 pub mod Runs
 pub mod Sound
 pub mod Turns

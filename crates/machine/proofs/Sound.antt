@@ -1,5 +1,5 @@
 -- What every run keeps: the status, and that an act is named by the wait before the next step.
-use Rattle.std.proofs.Common.{◌≡◌, ℕ, zero, suc, ◌+◌, ◌-◌, Bool, true, false, cond, ◌&&◌, eqb, ltb, leb, List, length, get_or, Some, None, Option, sym, refl, ap, ◌∙◌, subst, arith, leb-true}
+use Rattle.std.proofs.Common.{◌≡◌, ℕ, zero, suc, ◌+◌, ◌-◌, Bool, true, false, cond, ◌&&◌, eqb, ltb, leb, List, length, get_or, Some, None, Ok, Err, Option, sym, refl, ap, ◌∙◌, subst, arith, leb-true}
 use Rattle.std.proofs.lemmas.Bool.{and_parts}
 use Rattle.scripts.specs.declared.Step.{Step}
 use Rattle.scripts.specs.declared.Step.TheVariants.{Constant, Move, Sum, Product, Equal, Less, Jump, JumpIf, Load, Store, Wait}
@@ -9,13 +9,9 @@ use Rattle.machine.specs.declared.Span.{Span}
 use Rattle.machine.specs.declared.Act.{Act}
 use Rattle.machine.specs.declared.Machine.{Machine}
 use Rattle.machine.specs.declared.Status.{Status}
-use Rattle.machine.specs.declared.Status.TheVariants.{Waiting}
-use Rattle.machine.specs.declared.Outcome.TheVariants.{Did, Refused}
-use Rattle.machine.specs.declared.Flow.{Flow}
-use Rattle.machine.specs.declared.Flow.TheVariants.{On, Waits, Faults}
-use Rattle.machine.specs.Limits.{allowed, Inside, Within}
-use Rattle.machine.specs.Step.{After, after, beside, register, number_at, pair_at, span_at, and_then, act_at, waits, goto, assigns, jumps, combines, copies, jumps_if, loads, stores, effect, step_of}
-use Rattle.machine.specs.Turn.{become, while_on, runs, turned, end_of}
+use Rattle.machine.specs.Limits.{Inside, Within}
+use Rattle.machine.specs.Step.{Flow, After, after, beside, register, number_at, pair_at, span_at, and_then, act_at, waits, goto, assigns, jumps, combines, copies, jumps_if, loads, stores, effect, step_of}
+use Rattle.machine.specs.Turn.{become, while_on, runs}
 use Rattle.machine.specs.Acts.{Named}
 
 -- an act is in the memory: the bytes that its wait names are
@@ -60,15 +56,15 @@ act-within (call.Open site path) m size a e =
 
 -- a flow that is no wait
 abbrev Plain : Flow → Type 0
-Plain On = Unit {0}
-Plain (Waits a) = ⊥
-Plain Faults = Unit {0}
+Plain (Ok None) = Unit {0}
+Plain (Ok (Some a)) = ⊥
+Plain (Err out) = Unit {0}
 
 -- the act of a wait is named
 abbrev pub NamedBy : Flow → List Step → Machine → List ℕ → Type 0
-NamedBy On script m s = Unit {0}
-NamedBy (Waits a) script m s = Named a script m (length s)
-NamedBy Faults script m s = Unit {0}
+NamedBy (Ok None) script m s = Unit {0}
+NamedBy (Ok (Some a)) script m s = Named a script m (length s)
+NamedBy (Err out) script m s = Unit {0}
 
 -- what a run from m keeps
 pub record Sound (script : List Step) (m : Machine) (x : After) : Type 0 where
@@ -111,9 +107,9 @@ module _ (m : Machine) (s : List ℕ) where
   stores_moves (Some xy) = either (Moves m) (ltb xy.0 (length s)) _ _ (refl, tt) (refl, tt)
 
 plain_named : (flow : Flow) (script : List Step) (m : Machine) (s : List ℕ) → Plain flow → NamedBy flow script m s
-plain_named On script m s h = tt
-plain_named (Waits a) script m s h = absurd h
-plain_named Faults script m s h = tt
+plain_named (Ok None) script m s h = tt
+plain_named (Ok (Some a)) script m s h = absurd h
+plain_named (Err out) script m s h = tt
 
 moves_sound : (script : List Step) (m : Machine) (x : After) → Moves m x → Sound script m x
 moves_sound script m x h = record { status = h.0; named = plain_named x.flow script x.machine x.memory h.1 }
@@ -143,9 +139,9 @@ step_sound script m s =
     (record { status = done.status; named = done.named }) (record { status = refl; named = tt })
 
 while_on_sound : (script : List Step) (m : Machine) (flow : Flow) (more stop : After) → Sound script m stop → Sound script stop.machine more → Sound script m (while_on flow more stop)
-while_on_sound script m On more stop h k = record { status = k.status ∙ h.status; named = k.named }
-while_on_sound script m (Waits a) more stop h k = h
-while_on_sound script m Faults more stop h k = h
+while_on_sound script m (Ok None) more stop h k = record { status = k.status ∙ h.status; named = k.named }
+while_on_sound script m (Ok (Some a)) more stop h k = h
+while_on_sound script m (Err out) more stop h k = h
 
 pub runs_sound : (script : List Step) (k : ℕ) (m : Machine) (s : List ℕ) → Sound script m (runs script k m s)
 unfolding runs
@@ -164,7 +160,7 @@ act-become status call.Look m size = refl
 act-become status (call.Open site path) m size = refl
 
 -- a run that waits: its act is named, and lies in the memory
-module _ (script : List Step) (k : ℕ) (m m' : Machine) (s s' : List ℕ) (a : Act) (waited : after (Waits a) m' s' ≡ runs script k m s) where
+module _ (script : List Step) (k : ℕ) (m m' : Machine) (s s' : List ℕ) (a : Act) (waited : after (Ok (Some a)) m' s' ≡ runs script k m s) where
   wait_here : Named a script m' (length s')
   wait_here =
       subst (λ (x : After). NamedBy x.flow script x.machine x.memory) (sym waited) (runs_sound script k m s).named
@@ -175,6 +171,3 @@ module _ (script : List Step) (k : ℕ) (m m' : Machine) (s s' : List ℕ) (a : 
 
   pub wait_within : Within a (length s')
   wait_within = act-within wait_here.0 m' (length s') a wait_here.1.1
-
-  pub wait_done : (sites : ℕ) → true ≡ allowed a sites s' → turned (Did a) (become Waiting m') s' ≡ end_of sites (runs script k m s)
-  wait_done sites e = ap (λ b. turned (cond b (Did a) Refused) (become Waiting m') s') e ∙ ap (end_of sites) waited

@@ -1,17 +1,15 @@
 -- Turns that are cut and go on, and turns after the end.
-use Rattle.std.proofs.Common.{◌≡◌, ℕ, zero, suc, ◌+◌, ◌≤◌, Bool, true, false, cond, List, [], ◌∷◌, length, take, drop, set, sym, refl, ap, ◌∙◌, suc-add, zero-add, arith}
+use Rattle.std.proofs.Common.{◌≡◌, ℕ, zero, suc, ◌+◌, ◌≤◌, Bool, true, false, cond, List, [], ◌∷◌, length, take, drop, set, Some, None, Ok, Err, sym, refl, ap, ◌∙◌, suc-add, zero-add, arith}
 use Rattle.std.proofs.lemmas.List.{length-take-le, take_at, drop_at}
 use Rattle.scripts.specs.declared.Step.{Step}
 use Rattle.machine.specs.declared.Act.{Act}
 use Rattle.machine.specs.declared.Told.{Told}
 use Rattle.machine.specs.declared.Machine.{Machine}
-use Rattle.machine.specs.declared.Flow.{Flow}
-use Rattle.machine.specs.declared.Flow.TheVariants.{On, Waits, Faults}
 use Rattle.machine.specs.declared.Status.{Status}
 use Rattle.machine.specs.declared.Status.TheVariants.{Waiting, Running, Ended}
 use Rattle.machine.specs.declared.Outcome.TheVariants.{Did, Refused, Paused}
 use Rattle.machine.specs.Limits.{allowed}
-use Rattle.machine.specs.Step.{After, step_of}
+use Rattle.machine.specs.Step.{Flow, After, step_of}
 use Rattle.machine.specs.Turn.{while_on, runs, hears, room, placed, bytes_of, end_by, end_of, turn_by, turn_in, turn_of, fault_number}
 use Rattle.machine.specs.Laws.{Tells, Resumes, Ends}
 use Rattle.machine.proofs.Sound.{runs_sound}
@@ -21,9 +19,9 @@ abbrev further : List Step → ℕ → After → After
 further script k x = while_on x.flow (runs script k x.machine x.memory) x
 
 cut : (script : List Step) (k : ℕ) (flow : Flow) (x y : After) → x.flow ≡ flow → while_on flow (further script k y) x ≡ further script k (while_on flow y x)
-cut script k On x y e = refl
-cut script k (Waits a) x y e = ap (λ f. while_on f (runs script k x.machine x.memory) x) (sym e)
-cut script k Faults x y e = ap (λ f. while_on f (runs script k x.machine x.memory) x) (sym e)
+cut script k (Ok None) x y e = refl
+cut script k (Ok (Some a)) x y e = ap (λ f. while_on f (runs script k x.machine x.memory) x) (sym e)
+cut script k (Err out) x y e = ap (λ f. while_on f (runs script k x.machine x.memory) x) (sym e)
 
 -- a run that is cut and goes on is the uncut run
 runs_on : (script : List Step) (j k : ℕ) (m : Machine) (s : List ℕ) → runs script (j + k) m s ≡ further script k (runs script j m s)
@@ -42,9 +40,9 @@ done-not false a = (λ e. let z : ◌≡◌ {A = ℕ} 0 1 = cc in omega arith, �
 
 module _ (k sites : ℕ) (script : List Step) (later : Told) (cs : List ℕ) where
   goes_on : (flow : Flow) (y : After) → y.machine.status ≡ Running → (end_by flow sites y.machine y.memory).outcome ≡ Paused → turn_in k sites script later cs (end_by flow sites y.machine y.memory).machine (end_by flow sites y.machine y.memory).memory ≡ end_of sites (while_on flow (runs script k y.machine y.memory) y)
-  goes_on On y run e = ap (λ st. turn_by st k sites script later cs y.machine y.memory) run
-  goes_on (Waits a) y run e = absurd ((done-not (allowed a sites y.memory) a).0 e)
-  goes_on Faults y run e = let z : ◌≡◌ {A = ℕ} 0 1 = cc in absurd (omega arith)
+  goes_on (Ok None) y run e = ap (λ st. turn_by st k sites script later cs y.machine y.memory) run
+  goes_on (Ok (Some a)) y run e = absurd ((done-not (allowed a sites y.memory) a).0 e)
+  goes_on (Err out) y run e = let z : ◌≡◌ {A = ℕ} 0 1 = cc in absurd (omega arith)
 
   run_resumes : (j : ℕ) (m : Machine) (s : List ℕ) → m.status ≡ Running → (end_of sites (runs script j m s)).outcome ≡ Paused → turn_in k sites script later cs (end_of sites (runs script j m s)).machine (end_of sites (runs script j m s)).memory ≡ end_of sites (runs script (j + k) m s)
   run_resumes j m s run e =
@@ -61,9 +59,9 @@ pub resumes : Resumes
 resumes j k sites script told later bs cs m s e = resumes_by m.status j k sites script told later bs cs m s refl e
 
 ended : (flow : Flow) (sites : ℕ) (m : Machine) (s : List ℕ) → fault_number (end_by flow sites m s).outcome ≡ 4 → (end_by flow sites m s).machine.status ≡ Ended
-ended On sites m s e = absurd (omega arith)
-ended (Waits a) sites m s e = absurd ((done-not (allowed a sites s) a).1 e)
-ended Faults sites m s e = refl
+ended (Ok None) sites m s e = absurd (omega arith)
+ended (Ok (Some a)) sites m s e = absurd ((done-not (allowed a sites s) a).1 e)
+ended (Err out) sites m s e = refl
 
 ends_by : (status : Status) (k sites : ℕ) (script : List Step) (told : Told) (bs : List ℕ) (m : Machine) (s : List ℕ) → fault_number (turn_by status k sites script told bs m s).outcome ≡ 4 → (turn_by status k sites script told bs m s).machine.status ≡ Ended
 ends_by Ended k sites script told bs m s e = absurd (omega arith)

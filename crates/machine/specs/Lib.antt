@@ -5,3 +5,4 @@ pub mod Acts
 pub mod Laws
 pub mod Script
 pub mod Tells
+pub mod Same

@@ -1,5 +1,5 @@
 -- One step of the machine that runs scripts.
-use Rattle.std.specs.Prelude.{ℕ, ◌+◌, ◌*◌, ◌%◌, ◌^◌, Bool, cond, ◌&&◌, List, length, Some, None, Option, ◌==◌, nat_le, nat_lt, slice_index, slice_index_or, slice_set}
+use Rattle.std.specs.Prelude.{ℕ, ◌+◌, ◌*◌, ◌%◌, ◌^◌, Bool, cond, ◌&&◌, List, length, Some, None, Ok, Err, Option, Result, ◌==◌, nat_le, nat_lt, slice_index, slice_index_or, slice_set}
 use Rattle.scripts.specs.declared.Step.{Step}
 use Rattle.scripts.specs.declared.Step.TheVariants.{Constant, Move, Sum, Product, Equal, Less, Jump, JumpIf, Load, Store, Wait}
 use Rattle.scripts.specs.declared.Call.{Call}
@@ -7,9 +7,20 @@ use Rattle.scripts.specs.declared.Call.TheVariants as call
 use Rattle.machine.specs.declared.Span.{Span}
 use Rattle.machine.specs.declared.Act.{Act}
 use Rattle.machine.specs.declared.Act.TheVariants as act
-use Rattle.machine.specs.declared.Flow.{Flow}
-use Rattle.machine.specs.declared.Flow.TheVariants.{On, Waits, Faults}
+use Rattle.machine.specs.declared.OutOfRange.{OutOfRange}
 use Rattle.machine.specs.declared.Machine.{Machine}
+
+-- how a step, or a run of steps, went
+abbrev pub Flow : Type 0
+Flow = Result (Option Act) OutOfRange
+
+-- on to the next step
+abbrev pub on : Flow
+on = Ok None
+
+-- to a fault: a register, a place of the memory or a step that is not there
+abbrev pub faults : Flow
+faults = Err (record {})
 
 -- what a step leaves: how it went, the machine and the memory
 pub record After : Type 0 where
@@ -57,8 +68,8 @@ act_at (call.Open site path) m size = and_then (number_at m site) (λ n. and_the
 
 -- a wait for an act that could be named
 abbrev pub waits : Option Act → Flow
-waits None = Faults
-waits (Some x) = Waits x
+waits None = faults
+waits (Some x) = Ok (Some x)
 
 -- 1 for what holds, 0 for what does not
 abbrev pub bit : Bool → ℕ
@@ -87,36 +98,36 @@ beside x s = after x.flow x.machine s
 
 -- register a gets a number, if there is such a one
 abbrev pub assigns : ℕ → ℕ → Machine → Moved
-assigns a x m = cond (nat_lt a 32) (moved On (assign a x m)) (moved Faults m)
+assigns a x m = cond (nat_lt a 32) (moved on (assign a x m)) (moved faults m)
 
 -- a jump in a script of so many steps
 abbrev pub jumps : ℕ → ℕ → Machine → Moved
-jumps to count m = cond (nat_lt to count) (moved On (goto to m)) (moved Faults m)
+jumps to count m = cond (nat_lt to count) (moved on (goto to m)) (moved faults m)
 
 -- register a gets what two registers give
 abbrev pub combines : ℕ → Option (ℕ × ℕ) → (ℕ → ℕ → ℕ) → Machine → List ℕ → After
-combines a None f m s = after Faults m s
+combines a None f m s = after faults m s
 combines a (Some xy) f m s = beside (assigns a (f xy.0 xy.1) m) s
 
 -- register a gets what another gives
 abbrev pub copies : ℕ → Option ℕ → Machine → List ℕ → After
-copies a None m s = after Faults m s
+copies a None m s = after faults m s
 copies a (Some x) m s = beside (assigns a x m) s
 
 -- a jump if a number is not zero
 abbrev pub jumps_if : Option ℕ → ℕ → ℕ → Machine → List ℕ → After
-jumps_if None count n m s = after Faults m s
-jumps_if (Some x) count n m s = cond (x == 0) (after On m s) (beside (jumps n count m) s)
+jumps_if None count n m s = after faults m s
+jumps_if (Some x) count n m s = cond (x == 0) (after on m s) (beside (jumps n count m) s)
 
 -- register a gets a byte of the memory
 abbrev pub loads : ℕ → Option ℕ → Machine → List ℕ → After
-loads a None m s = after Faults m s
-loads a (Some at) m s = cond (nat_lt at (length s)) (beside (assigns a (slice_index s at) m) s) (after Faults m s)
+loads a None m s = after faults m s
+loads a (Some at) m s = cond (nat_lt at (length s)) (beside (assigns a (slice_index s at) m) s) (after faults m s)
 
 -- a place of the memory gets the low byte of a number
 abbrev pub stores : Option (ℕ × ℕ) → Machine → List ℕ → After
-stores None m s = after Faults m s
-stores (Some xy) m s = cond (nat_lt xy.0 (length s)) (after On m (slice_set s xy.0 (xy.1 % 256))) (after Faults m s)
+stores None m s = after faults m s
+stores (Some xy) m s = cond (nat_lt xy.0 (length s)) (after on m (slice_set s xy.0 (xy.1 % 256))) (after faults m s)
 
 -- what a step does, in a script of so many
 abbrev pub effect : ℕ → Step → Machine → List ℕ → After
@@ -136,4 +147,4 @@ effect count (Wait call) m s = after (waits (act_at call m (length s))) m s
 abbrev pub step_of : List Step → Machine → List ℕ → After
 step_of script m s =
     cond (nat_lt m.next (length script))
-    (effect (length script) (slice_index_or script m.next (Jump 0)) (goto (m.next + 1) m) s) (after Faults m s)
+    (effect (length script) (slice_index_or script m.next (Jump 0)) (goto (m.next + 1) m) s) (after faults m s)

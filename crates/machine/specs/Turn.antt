@@ -1,17 +1,15 @@
 -- A turn of a script: what it is told, a run of steps, and what comes of it.
-use Rattle.std.specs.Prelude.{ℕ, zero, suc, min, cond, List, [], ◌++◌, length, take, drop, replicate, slice_set}
+use Rattle.std.specs.Prelude.{ℕ, zero, suc, min, cond, List, [], ◌∷◌, ◌++◌, length, take, drop, replicate, Some, None, Ok, Err, slice_set}
 use Rattle.scripts.specs.declared.Step.{Step}
 use Rattle.machine.specs.declared.Told.{Told}
 use Rattle.machine.specs.declared.Told.TheVariants.{Silence, Begun, Answer, Barred, Heard, Kept}
-use Rattle.machine.specs.declared.Flow.{Flow}
-use Rattle.machine.specs.declared.Flow.TheVariants.{On, Waits, Faults}
 use Rattle.machine.specs.declared.Status.{Status}
 use Rattle.machine.specs.declared.Status.TheVariants.{Waiting, Running, Ended}
 use Rattle.machine.specs.declared.Machine.{Machine}
 use Rattle.machine.specs.declared.Outcome.{Outcome}
 use Rattle.machine.specs.declared.Outcome.TheVariants.{Did, Refused, Paused, Faulted, Idle}
 use Rattle.machine.specs.Limits.{allowed}
-use Rattle.machine.specs.Step.{After, after, step_of}
+use Rattle.machine.specs.Step.{Flow, on, After, after, step_of}
 
 -- the number of the fault in a turn, and 0 for none
 abbrev pub fault_number : Outcome → ℕ
@@ -81,19 +79,27 @@ starts kind len site code m = record {
   status = Running;
 }
 
+-- what a script is told in its first four registers: kind, length, site and code
+abbrev pub numbers_told : Told → List ℕ → List ℕ → List ℕ
+numbers_told told bs s = kind_of told ∷ room (bytes_of told bs) s ∷ site_of told ∷ code_of told ∷ []
+
+-- numbers are in the first registers, and the script runs
+abbrev pub started : List ℕ → Machine → Machine
+started ns m = record { registers = ns ++ drop (length ns) m.registers; next = m.next; status = Running }
+
 -- a script that waited is told something
 abbrev pub hears : Told → List ℕ → Machine → List ℕ → Machine
 hears told bs m s = starts (kind_of told) (room (bytes_of told bs) s) (site_of told) (code_of told) m
 
 -- a run goes on after a step that neither waits nor faults
 abbrev pub while_on : Flow → After → After → After
-while_on On more stop = more
-while_on (Waits act) more stop = stop
-while_on Faults more stop = stop
+while_on (Ok None) more stop = more
+while_on (Ok (Some act)) more stop = stop
+while_on (Err out) more stop = stop
 
 -- up to so many steps: until a wait or a fault
 unfoldable pub runs : List Step → ℕ → Machine → List ℕ → After
-runs script zero m s = after On m s
+runs script zero m s = after on m s
 runs script (suc k) m s =
     while_on (step_of script m s).flow (runs script k (step_of script m s).machine (step_of script m s).memory)
     (step_of script m s)
@@ -110,9 +116,9 @@ turned outcome m s = record { outcome = outcome; machine = m; memory = s }
 
 -- what comes of a run, by how it went
 abbrev pub end_by : Flow → ℕ → Machine → List ℕ → Turned
-end_by On sites m s = turned Paused m s
-end_by (Waits act) sites m s = turned (cond (allowed act sites s) (Did act) Refused) (become Waiting m) s
-end_by Faults sites m s = turned Faulted (become Ended m) s
+end_by (Ok None) sites m s = turned Paused m s
+end_by (Ok (Some act)) sites m s = turned (cond (allowed act sites s) (Did act) Refused) (become Waiting m) s
+end_by (Err out) sites m s = turned Faulted (become Ended m) s
 
 -- what comes of a run
 abbrev pub end_of : ℕ → After → Turned

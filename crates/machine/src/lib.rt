@@ -11,7 +11,7 @@ mod step;
 mod tell;
 mod turn;
 
-// A part of a script's memory.
+// A part of a script's memory, as two registers name it: where it begins, and its length.
 #[derive(Clone, Copy, PartialEq, Eq, Debug)]
 pub struct Span {
     pub from: u32,
@@ -55,13 +55,12 @@ pub enum Outcome {
     Idle,
 }
 
-// How a step, or a run of steps, went.
-#[derive(Clone, Copy)]
-enum Flow {
-    On,
-    Waits(Act),
-    Faults,
-}
+// A register, a place of the memory or a step that is not there.
+#[derive(Clone, Copy, PartialEq, Eq, Debug)]
+pub struct OutOfRange;
+
+// How a step, or a run of steps, went: on, or to a wait for an act, or to a fault.
+type Flow = Result<Option<Act>, OutOfRange>;
 
 #[derive(Clone, Copy, PartialEq, Eq)]
 enum Status {
@@ -91,7 +90,7 @@ impl Machine {
 }
 
 impl Outcome {
-    // The number of the fault in a turn, and 0 for none.
+    // The number of the fault in a turn, and 0 for none. By name: `u8::from` would not say that it is a fault's number.
     pub fn fault(self) -> u8
         ensures { result ≡ fault_number self }
     {

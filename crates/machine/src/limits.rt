@@ -1,32 +1,14 @@
 // Which acts are done: lengths, paths and numbers of sites.
 ghost use Rattle.std.specs.Prelude.{◌≡◌, length};
-ghost use Rattle.machine.specs.Limits.{all_graphic, is_path, part, allowed, Inside, Within};
+ghost use Rattle.addresses.specs.Address.{path_ok};
+ghost use Rattle.machine.specs.Limits.{part, allowed, Inside, Within};
 
 use crate::{Act, Span};
-
-fn all_graphic(bytes: &[u8]) -> bool
-    ensures { result ≡ all_graphic bytes.now }
-{
-    for b in bytes {
-        if *b < b'!' || *b > b'~' {
-            return false;
-        }
-    }
-    true
-}
-
-fn is_path(bytes: &[u8]) -> bool
-    ensures { result ≡ is_path bytes.now }
-{
-    if bytes.len() > 255 || bytes.is_empty() || bytes[0] != b'/' {
-        return false;
-    }
-    all_graphic(bytes)
-}
+use addresses::is_path;
 
 fn names_path(span: Span, memory: &[u8]) -> bool
     requires { Inside span (length memory.now) }
-    ensures { result ≡ is_path (part span memory.now) }
+    ensures { result ≡ path_ok (part span memory.now) }
 {
     let from = span.from as usize;
     is_path(&memory[from..from + span.len as usize])

@@ -1,22 +1,21 @@
 // Machines are compared.
 ghost use Rattle.std.specs.Prelude.{◌≡◌, Decides};
+ghost use Rattle.machine.specs.Same.{same_machines};
+ghost use Rattle.std.specs.Cmp.Rules.{comparing};
+ghost use Rattle.std.proofs.Common.{rules};
 
-use crate::{Machine, Status};
+use crate::Machine;
 
-fn same_status(a: Status, b: Status) -> bool
-    ensures { Decides result (a ≡ b) }
-{
-    a == b
-}
+// By hand: a derive carries no clause, and what `==` decides is promised.
+impl PartialEq for Machine {
+    ghost eq = { same_machines };
 
-impl Machine {
-    // Are both the same, registers and all?
-    pub fn same(&self, other: &Machine) -> bool
-        ensures { Decides result (self.now ≡ other.now) }
+    ghost laws = { Prim.search (comparing, rules) };
+
+    fn eq(&self, other: &Machine) -> bool
+        ensures is { result ≡ same_machines self.now other.now }
+        ensures same { Decides result (self.now ≡ other.now) }
     {
-        if self.next != other.next || !same_status(self.status, other.status) {
-            return false;
-        }
-        self.registers == other.registers
+        self.next == other.next && self.status == other.status && self.registers == other.registers
     }
 }

@@ -1,100 +1,91 @@
-// One step of a script.
+// One step of a script. A step that names no register, no place of the memory or no other step is out of range.
 ghost use Rattle.std.specs.Prelude.{◌≡◌};
+ghost use Rattle.std.specs.Result.{result_ok};
 ghost use Rattle.machine.specs.Step.{after, moved, number_at, pair_at, span_at, act_at, assigns, jumps, effect, step_of};
 
-use crate::{Act, Flow, Machine, Span};
+use crate::{Act, Flow, Machine, OutOfRange, Span};
 use scripts::{Call, Step};
 
 impl Machine {
-    fn number(&self, a: u8) -> Option<u32>
-        ensures { result ≡ number_at self.now a }
+    fn number(&self, a: u8) -> Result<u32, OutOfRange>
+        ensures { result_ok result ≡ number_at self.now a }
     {
         if a >= 32 {
-            return None;
+            return Err(OutOfRange);
         }
-        Some(self.registers[a as usize])
+        Ok(self.registers[a as usize])
     }
 
-    fn pair(&self, a: u8, b: u8) -> Option<(u32, u32)>
-        ensures { result ≡ pair_at self.now a b }
+    fn pair(&self, a: u8, b: u8) -> Result<(u32, u32), OutOfRange>
+        ensures { result_ok result ≡ pair_at self.now a b }
     {
-        if a >= 32 || b >= 32 {
-            return None;
-        }
-        Some((self.registers[a as usize], self.registers[b as usize]))
+        Ok((self.number(a)?, self.number(b)?))
     }
 
     // The part of a memory of so many bytes that registers a and a + 1 name.
-    pub fn span(&self, a: u8, size: usize) -> Option<Span>
-        ensures { result ≡ span_at self.now size a }
+    pub fn span(&self, a: u8, size: usize) -> Result<Span, OutOfRange>
+        ensures { result_ok result ≡ span_at self.now size a }
     {
         if a >= 31 {
-            return None;
+            return Err(OutOfRange);
         }
         let from = self.registers[a as usize];
         let len = self.registers[a as usize + 1];
         if from as usize + len as usize > size {
-            return None;
+            return Err(OutOfRange);
         }
-        Some(Span { from, len })
+        Ok(Span { from, len })
     }
 
-    fn act(&self, call: Call, size: usize) -> Option<Act>
-        ensures { result ≡ act_at call self.now size }
+    fn act(&self, call: Call, size: usize) -> Result<Act, OutOfRange>
+        ensures { result_ok result ≡ act_at call self.now size }
     {
-        match call {
-            Call::Nothing => Some(Act::Nothing),
-            Call::Ask { site, path, body } => {
-                let site = self.number(site)?;
-                let path = self.span(path, size)?;
-                let body = self.span(body, size)?;
-                Some(Act::Ask { site, path, body })
-            }
+        let act = match call {
+            Call::Nothing => Act::Nothing,
+            Call::Ask { site, path, body } => Act::Ask {
+                site: self.number(site)?,
+                path: self.span(path, size)?,
+                body: self.span(body, size)?,
+            },
             Call::Say {
                 window,
                 site,
                 bytes,
-            } => {
-                let window = self.number(window)?;
-                let site = self.number(site)?;
-                let bytes = self.span(bytes, size)?;
-                Some(Act::Say {
-                    window,
-                    site,
-                    bytes,
-                })
-            }
-            Call::Keep { bytes } => {
-                let bytes = self.span(bytes, size)?;
-                Some(Act::Keep { bytes })
-            }
-            Call::Look => Some(Act::Look),
-            Call::Open { site, path } => {
-                let site = self.number(site)?;
-                let path = self.span(path, size)?;
-                Some(Act::Open { site, path })
-            }
-        }
+            } => Act::Say {
+                window: self.number(window)?,
+                site: self.number(site)?,
+                bytes: self.span(bytes, size)?,
+            },
+            Call::Keep { bytes } => Act::Keep {
+                bytes: self.span(bytes, size)?,
+            },
+            Call::Look => Act::Look,
+            Call::Open { site, path } => Act::Open {
+                site: self.number(site)?,
+                path: self.span(path, size)?,
+            },
+        };
+        Ok(act)
     }
 
     fn assign(&mut self, a: u8, x: u32) -> Flow
         ensures { moved result self.new ≡ assigns a x self.old }
     {
         if a >= 32 {
-            return Flow::Faults;
+            return Err(OutOfRange);
         }
         self.registers[a as usize] = x;
-        Flow::On
+        Ok(None)
     }
 
     fn jump(&mut self, to: u32, count: usize) -> Flow
         ensures { moved result self.new ≡ jumps to count self.old }
     {
         if to as usize >= count {
-            return Flow::Faults;
+            return Err(OutOfRange);
         }
         self.next = to as usize;
-        Flow::On
+        Ok(None)
     }
 
     // Does one step in a script of so many.
@@ -104,70 +95,49 @@ impl Machine {
         match step {
             Step::Constant(a, n) => self.assign(a, n),
             Step::Move(a, b) => {
-                let Some(x) = self.number(b) else {
-                    return Flow::Faults;
-                };
+                let x = self.number(b)?;
                 self.assign(a, x)
             }
             Step::Sum(a, b, c) => {
-                let Some((x, y)) = self.pair(b, c) else {
-                    return Flow::Faults;
-                };
+                let (x, y) = self.pair(b, c)?;
                 self.assign(a, x.wrapping_add(y))
             }
             Step::Product(a, b, c) => {
-                let Some((x, y)) = self.pair(b, c) else {
-                    return Flow::Faults;
-                };
+                let (x, y) = self.pair(b, c)?;
                 self.assign(a, x.wrapping_mul(y))
             }
             Step::Equal(a, b, c) => {
-                let Some((x, y)) = self.pair(b, c) else {
-                    return Flow::Faults;
-                };
+                let (x, y) = self.pair(b, c)?;
                 self.assign(a, u32::from(x == y))
             }
             Step::Less(a, b, c) => {
-                let Some((x, y)) = self.pair(b, c) else {
-                    return Flow::Faults;
-                };
+                let (x, y) = self.pair(b, c)?;
                 self.assign(a, u32::from(x < y))
             }
             Step::Jump(to) => self.jump(to, count),
             Step::JumpIf(a, to) => {
-                let Some(x) = self.number(a) else {
-                    return Flow::Faults;
-                };
-                if x == 0 {
-                    return Flow::On;
+                if self.number(a)? == 0 {
+                    return Ok(None);
                 }
                 self.jump(to, count)
             }
             Step::Load(a, b) => {
-                let Some(at) = self.number(b) else {
-                    return Flow::Faults;
-                };
-                let at = at as usize;
+                let at = self.number(b)? as usize;
                 if at >= memory.len() {
-                    return Flow::Faults;
+                    return Err(OutOfRange);
                 }
                 self.assign(a, u32::from(memory[at]))
             }
             Step::Store(a, b) => {
-                let Some((at, x)) = self.pair(a, b) else {
-                    return Flow::Faults;
-                };
+                let (at, x) = self.pair(a, b)?;
                 let at = at as usize;
                 if at >= memory.len() {
-                    return Flow::Faults;
+                    return Err(OutOfRange);
                 }
                 memory[at] = (x % 256) as u8;
-                Flow::On
+                Ok(None)
             }
-            Step::Wait(call) => match self.act(call, memory.len()) {
-                Some(act) => Flow::Waits(act),
-                None => Flow::Faults,
-            },
+            Step::Wait(call) => Ok(Some(self.act(call, memory.len())?)),
         }
     }
 
@@ -177,7 +147,7 @@ impl Machine {
     {
         let at = self.next;
         if at >= script.len() {
-            return Flow::Faults;
+            return Err(OutOfRange);
         }
         self.next = at + 1;
         self.execute(script[at], script.len(), memory)

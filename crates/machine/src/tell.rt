@@ -14,8 +14,7 @@ impl Machine {
     {
         match self.status {
             Status::Waiting => {
-                self.registers[0..5].copy_from_slice(&numbers);
-                self.status = Status::Running;
+                self.start(&numbers);
                 true
             }
             Status::Running | Status::Ended => false,
@@ -26,9 +25,6 @@ impl Machine {
     pub fn register(&self, a: u8) -> u32
         ensures { result ≡ register self.now a }
     {
-        if a >= 32 {
-            return 0;
-        }
-        self.registers[a as usize]
+        self.registers.get(a as usize).copied().unwrap_or(0)
     }
 }

@@ -1,11 +1,12 @@
-// A turn of a script.
-ghost use Rattle.std.specs.Prelude.{◌≡◌, length};
+// A turn of a script. Script and memory are lent beside the machine: their owner holds all three, and of a struct that
+// lends the memory nothing would be known of its bytes once it is let go.
+ghost use Rattle.std.specs.Prelude.{◌≡◌, ◌≤◌, length};
 ghost use Rattle.machine.specs.Acts.{Acts};
 ghost use Rattle.machine.specs.Script.{state, done_in, action_in, state_after};
 ghost use Rattle.machine.specs.Step.{after};
-ghost use Rattle.machine.specs.Turn.{bytes_of, room, placed, starts, hears, runs, turned, end_of, turn_of};
+ghost use Rattle.machine.specs.Turn.{bytes_of, room, placed, numbers_told, started, hears, runs, turned, end_of, turn_of};
 
-use crate::{Flow, Machine, Outcome, Status, Told, limits};
+use crate::{Flow, Machine, OutOfRange, Outcome, Status, Told, limits};
 use scripts::Step;
 
 // Copies by way of an array of the caller's own. Clang is not told that `from` and `to` lie apart, and leaves a loop from
@@ -32,14 +33,28 @@ fn place(bytes: &[u8], memory: &mut [u8]) -> u32
     n as u32
 }
 
+// Places the bytes that are told, and says what is told of them: kind, length, site and code.
+fn place_told(told: Told, bytes: &[u8], memory: &mut [u8]) -> [u32; 4]
+    ensures numbers { result ≡ numbers_told told bytes.now memory.old }
+    ensures memory { memory.new ≡ placed (bytes_of told bytes.now) memory.old }
+{
+    match told {
+        Told::Silence => [0, 0, 0, 0],
+        Told::Begun => [1, place(bytes, memory), 0, 0],
+        Told::Answer { site, code } => [2, place(bytes, memory), site, code],
+        Told::Barred { site } => [3, 0, site, 0],
+        Told::Heard { site } => [4, place(bytes, memory), site, 0],
+        Told::Kept => [5, place(bytes, memory), 0, 0],
+    }
+}
+
 impl Machine {
-    fn start(&mut self, kind: u32, len: u32, site: u32, code: u32)
-        ensures { self.new ≡ starts kind len site code self.old }
+    // The numbers are in the first registers, and the script runs.
+    pub(crate) fn start(&mut self, numbers: &[u32])
+        requires { length numbers.now ≤ 5 }
+        ensures { self.new ≡ started numbers.now self.old }
     {
-        self.registers[0] = kind;
-        self.registers[1] = len;
-        self.registers[2] = site;
-        self.registers[3] = code;
+        self.registers[..numbers.len()].copy_from_slice(numbers);
         self.status = Status::Running;
     }
 
@@ -47,41 +62,23 @@ impl Machine {
         ensures machine { self.new ≡ hears told bytes.now self.old memory.old }
         ensures memory { memory.new ≡ placed (bytes_of told bytes.now) memory.old }
     {
-        match told {
-            Told::Silence => self.start(0, 0, 0, 0),
-            Told::Begun => {
-                let len = place(bytes, memory);
-                self.start(1, len, 0, 0);
-            }
-            Told::Answer { site, code } => {
-                let len = place(bytes, memory);
-                self.start(2, len, site, code);
-            }
-            Told::Barred { site } => self.start(3, 0, site, 0),
-            Told::Heard { site } => {
-                let len = place(bytes, memory);
-                self.start(4, len, site, 0);
-            }
-            Told::Kept => {
-                let len = place(bytes, memory);
-                self.start(5, len, 0, 0);
-            }
-        }
+        let numbers = place_told(told, bytes, memory);
+        self.start(&numbers);
     }
 
     // Up to so many steps: until a wait or a fault.
     fn run(&mut self, script: &[Step], memory: &mut [u8], most: u32) -> Flow
         ensures { after result self.new memory.new ≡ runs script.now most self.old memory.old }
     {
+        // How the run went is the loop's value, so each way out of it is a `break`.
         let mut left = most;
         'steps: loop {
             if left == 0 {
-                break 'steps Flow::On;
+                break 'steps Ok(None);
             }
             left -= 1;
-            match self.step(script, memory) {
-                Flow::On => {}
-                stop => break 'steps stop,
+            if let Some(act) = self.step(script, memory)? {
+                break 'steps Ok(Some(act));
             }
         }
     }
@@ -92,8 +89,8 @@ impl Machine {
         ensures acts { Acts result sites script.now self.new memory.new }
     {
         match self.run(script, memory, 10_000) {
-            Flow::On => Outcome::Paused,
-            Flow::Waits(act) => {
+            Ok(None) => Outcome::Paused,
+            Ok(Some(act)) => {
                 self.status = Status::Waiting;
                 if limits::allows(act, sites, memory) {
                     Outcome::Did(act)
@@ -101,7 +98,7 @@ impl Machine {
                     Outcome::Refused
                 }
             }
-            Flow::Faults => {
+            Err(OutOfRange) => {
                 self.status = Status::Ended;
                 Outcome::Faulted
             }

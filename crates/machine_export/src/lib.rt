@@ -13,10 +13,7 @@ fn count(outcome: Outcome) -> u32
     ensures value { result ≡ counts outcome }
     ensures small { result ≤ 1 }
 {
-    match outcome {
-        Outcome::Did(_) => 1,
-        Outcome::Refused | Outcome::Paused | Outcome::Faulted | Outcome::Idle => 0,
-    }
+    u32::from(matches!(outcome, Outcome::Did(_)))
 }
 
 // So many turns, each told the same; says in how many something was done.
@@ -24,6 +21,7 @@ fn play(machine: &mut Machine, script: &[Step], turns: u32, bytes: &[u8], memory
     ensures { played result machine.new memory.new ≡ plays turns script.now bytes.now (played 0 machine.old memory.old) }
 {
     let mut done = 0;
+    // A loop: a closure that is summed up would lend machine and memory.
     for i in 0..turns {
         done += count(machine.turn(script, 16, Told::Heard { site: 0 }, bytes, memory));
     }

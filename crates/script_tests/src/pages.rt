@@ -56,9 +56,7 @@ fn an_unknown_step_has_fault_three(rt: HostRuntime) {
 
 // The page file of what was read from one.
 fn again(rt: &impl Abort, step: [u8; 8]) -> Result<[u8; 16], Fail> {
-    let Ok(script) = Script::read(&page_of(step)) else {
-        return Err(Fail::new("no page"));
-    };
+    let script = Script::read(&page_of(step)).ok().ok_or("no page")?;
     let mut page = [0xee; 16];
     assert_eq!(rt; script.write(&mut page), Some(16));
     Ok(page)
@@ -84,16 +82,12 @@ fn unused_places_are_ignored(rt: HostRuntime) -> Result<(), Fail> {
 fn a_script_has_at_most_two_thousand_steps(rt: HostRuntime) -> Result<(), Fail> {
     let step = Step::Wait(Call::Look);
     assert_eq!(rt; Script::new(&[step; 2001]).is_none(), true);
-    let Some(script) = Script::new(&[step; 2000]) else {
-        return Err(Fail::new("too long"));
-    };
+    let script = Script::new(&[step; 2000]).ok_or("too long")?;
     let mut page = [0u8; 16_008];
     assert_eq!(rt; script.write(&mut page[0..16_007]), None);
     assert_eq!(rt; page[0], 0);
     assert_eq!(rt; script.write(&mut page), Some(16_008));
-    let Ok(read) = Script::read(&page) else {
-        return Err(Fail::new("no page"));
-    };
+    let read = Script::read(&page).ok().ok_or("no page")?;
     assert_eq!(rt; read.steps().len(), 2000);
     assert_eq!(rt; Script::empty().steps().len(), 0);
     Ok(())

@@ -34,16 +34,10 @@ fn what_is_told_is_in_the_first_four_registers(rt: HostRuntime) {
         (Told::Kept, [5, 3, 0, 0], [b'/', b'a', b'b', 7]),
     ];
     for (told, numbers, bytes) in cases {
-        for (register, number) in numbers.iter().enumerate() {
+        for (register, number) in (0..4u8).zip(numbers) {
             let mut memory = [7u8; 4096];
-            let outcome = Machine::new().turn(
-                &[say((register % 4) as u8)],
-                1,
-                told,
-                b"/ab",
-                &mut memory,
-            );
-            assert_eq!(rt; outcome, said(*number));
+            let outcome = Machine::new().turn(&[say(register)], 1, told, b"/ab", &mut memory);
+            assert_eq!(rt; outcome, said(number));
             assert_eq!(rt; [memory[0], memory[1], memory[2], memory[3]], bytes);
         }
     }

@@ -1,5 +1,6 @@
 -- Steps that are read one by one.
-use Rattle.std.proofs.Common.{◌≡◌, ℕ, suc, ◌+◌, ◌-◌, ◌<◌, List, [], ◌∷◌, ◌++◌, take, drop, Some, None, Ok, Err, Option, Result, sym, refl, ap, ◌∙◌, append_assoc, append-nil, arith}
+use Rattle.std.proofs.Common.{◌≡◌, ℕ, suc, ◌+◌, ◌-◌, ◌<◌, List, [], ◌∷◌, ◌++◌, length, take, drop, Some, None, Ok, Err, Option, Result, sym, refl, ap, ◌∙◌, append_assoc, append-nil, arith}
+use Rattle.std.proofs.Math.Seq.{take-append_seam, drop-append_seam}
 use Rattle.scripts.specs.declared.Step.{Step}
 use Rattle.scripts.specs.declared.Unreadable.{Unreadable}
 use Rattle.scripts.specs.declared.Unreadable.TheVariants.{UnknownStep}
@@ -36,3 +37,10 @@ onto_more done now count fewer bs rest step h e f g =
 
 pub onto_unknown : (done : List Step) (count : ℕ) (bs : List ℕ) → 0 < count → None ≡ step_in (take 8 bs) → onto done (steps_in count bs) ≡ Err UnknownStep
 onto_unknown done count bs h e = ap (onto done) (next count bs None h e)
+
+-- a chunk of eight bytes is the front of what was left, and the rest is left behind it
+pub front_8 : (bs x rest : List ℕ) → bs ≡ x ++ rest → length x ≡ 8 → take 8 bs ≡ x
+front_8 bs x rest e h = (λ i. take (sym h i) (e i)) ∙ take-append_seam x rest
+
+pub past_8 : (bs x rest : List ℕ) → bs ≡ x ++ rest → length x ≡ 8 → drop 8 bs ≡ rest
+past_8 bs x rest e h = (λ i. drop (sym h i) (e i)) ∙ drop-append_seam x rest

@@ -1,7 +1,5 @@
 -- Steps by their bytes and by their parts.
 use Rattle.std.proofs.Common.{◌≡◌, ℕ, List, Some, Option, Decides, sym, refl, ap, ◌∙◌, get_or}
-use Rattle.std.specs.Bool.{nat_eq}
-use Rattle.std.specs.Cmp.Lexicographic.{pointwise}
 use Rattle.std.proofs.lemmas.Slice.Eq.{slice_eq-Decides}
 use Rattle.std.proofs.lemmas.Bool.Decides.{Decides-eqb}
 use Rattle.scripts.specs.declared.Step.{Step}
@@ -9,7 +7,7 @@ use Rattle.scripts.specs.declared.Step.TheVariants.{Constant, Move, Sum, Product
 use Rattle.scripts.specs.declared.Call.{Call}
 use Rattle.scripts.specs.declared.Call.TheVariants.{Nothing, Ask, Say, Keep, Look, Open}
 use Rattle.scripts.specs.Page.{step_bytes, step_in, step_by}
-use Rattle.scripts.specs.Same.{parts_of, call_parts}
+use Rattle.scripts.specs.Same.{parts_of, call_parts, same_steps}
 
 pub same_step : (a b : Step) → step_in (step_bytes a) ≡ Some a → step_in (step_bytes b) ≡ Some b → step_bytes a ≡ step_bytes b → a ≡ b
 same_step a b p q e = let read : ◌≡◌ {A = Option Step} (Some a) (Some b) = sym p ∙ ap step_in e ∙ q in cc
@@ -45,7 +43,7 @@ same_parts : (a b : Step) → parts_of a ≡ parts_of b → a ≡ b
 same_parts a b e = let read : ◌≡◌ {A = Option Step} (Some a) (Some b) = sym (parts_back a) ∙ ap by_parts e ∙ parts_back b in cc
 
 -- steps are the same where their parts are
-pub steps_decide : (a b : Step) → Decides (pointwise nat_eq (parts_of a) (parts_of b)) (a ≡ b)
+pub steps_decide : (a b : Step) → Decides (same_steps a b) (a ≡ b)
 steps_decide a b =
     let d = slice_eq-Decides Decides-eqb (parts_of a) (parts_of b) _ refl in
     (λ t. same_parts a b (d.0 t), λ e. d.1 (ap parts_of e))

@@ -1,5 +1,8 @@
 -- When two steps are the same. Assumes nothing.
-use Rattle.std.specs.Prelude.{ℕ, List, [], ◌∷◌}
+use Rattle.std.specs.Prelude.{ℕ, Bool, List, [], ◌∷◌}
+use Rattle.std.specs.Bool.{nat_eq}
+use Rattle.std.specs.Ordering.{on}
+use Rattle.std.specs.Cmp.Lexicographic.{pointwise}
 use Rattle.scripts.specs.declared.Step.{Step}
 use Rattle.scripts.specs.declared.Step.TheVariants.{Constant, Move, Sum, Product, Equal, Less, Jump, JumpIf, Load, Store, Wait}
 use Rattle.scripts.specs.declared.Call.{Call}
@@ -27,3 +30,7 @@ parts_of (JumpIf a number) = 7 ∷ a ∷ 0 ∷ 0 ∷ number ∷ []
 parts_of (Load a b) = 8 ∷ a ∷ b ∷ 0 ∷ 0 ∷ []
 parts_of (Store a b) = 9 ∷ a ∷ b ∷ 0 ∷ 0 ∷ []
 parts_of (Wait call) = call_parts call
+
+-- whether two steps have the same parts
+abbrev pub same_steps : Step → Step → Bool
+same_steps = on parts_of (pointwise nat_eq)

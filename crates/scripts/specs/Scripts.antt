@@ -1,12 +1,13 @@
 -- What a script stands for: its steps.
-use Rattle.std.specs.Prelude.{List, take, Some, None, Ok, Err, Option, Result}
+use Rattle.std.specs.Prelude.{List, Some, None, Ok, Err, Option, Result}
+use Rattle.bounded.specs.Fixed.{items_of}
 use Rattle.scripts.specs.declared.Step.{Step}
 use Rattle.scripts.specs.declared.Unreadable.{Unreadable}
 use Rattle.scripts.specs.declared.script.Script.{Script}
 
 -- the steps of a script
 abbrev pub steps_of : Script → List Step
-steps_of script = take script.count script.steps
+steps_of script = items_of script.steps
 
 -- what a reader answers, by the steps
 abbrev pub steps_read : Result Script Unreadable → Result (List Step) Unreadable

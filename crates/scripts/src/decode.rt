@@ -26,6 +26,7 @@ fn call(number: u32, a: u8, b: u8, c: u8) -> Option<Call>
     }
 }
 
+// The kind is a byte of the file: here it becomes a step.
 fn by_kind(kind: u8, a: u8, b: u8, c: u8, number: u32) -> Option<Step>
     ensures { result ≡ step_by kind a b c number }
 {

@@ -4,6 +4,7 @@ ghost use Rattle.scripts.specs.Page.{word, row, call_bytes, step_bytes, step_in}
 
 use crate::{Call, Step};
 
+// The kind is the byte that the file has for it.
 fn row(kind: u8, a: u8, b: u8, c: u8, number: u32) -> [u8; 8]
     ensures bytes { result ≡ row kind a b c number }
     ensures back { word (number / 16777216 % 256) (number / 65536 % 256) (number / 256 % 256) (number % 256) ≡ number }

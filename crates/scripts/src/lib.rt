@@ -56,7 +56,7 @@ pub enum Unreadable {
 }
 
 impl Unreadable {
-    // The number of the fault.
+    // The number of the fault. By name: `u8::from` would not say that it is a fault's number.
     pub fn number(self) -> u8
         ensures { result ≡ fault_number self }
     {

@@ -6,15 +6,13 @@ ghost use Rattle.scripts.specs.Scripts.{steps_of, steps_read, steps_taken};
 
 use crate::script::Script;
 use crate::{Call, Step, Unreadable, decode, encode};
+use bounded::fixed::FixedVec;
 
 // Whether the bytes begin as a page file does.
 fn is_page(bytes: &[u8]) -> bool
     ensures { result ≡ is_page bytes.now }
 {
-    let [b'P', b'A', b'G', b'E', b' ', b'1', ..] = bytes else {
-        return false;
-    };
-    true
+    matches!(bytes, [b'P', b'A', b'G', b'E', b' ', b'1', ..])
 }
 
 // The count, where so many steps make a file of so many bytes.
@@ -63,11 +61,15 @@ fn encode(steps: &[Step], out: &mut [u8])
     ensures bytes { out.new ≡ flat_map step_bytes steps.now }
     ensures back { steps_in (length steps.now) (flat_map step_bytes steps.now) ≡ Ok steps.now }
 {
+    // By place: of a slice that `chunks_exact_mut` lends piece by piece, a proof knows no more than the length.
     for (i, step) in steps.iter().enumerate() {
         let at = i * 8;
         out[at..at + 8].copy_from_slice(&encode::step(*step));
     }
 }
+
+// Stands where a script has no step, and is never shown.
+const FILLER: Step = Step::Wait(Call::Nothing);
 
 impl Script {
     // A script of no steps.
@@ -75,30 +77,23 @@ impl Script {
         ensures { steps_of result ≡ [] }
     {
         Script {
-            steps: [Step::Wait(Call::Nothing); 2000],
-            count: 0,
+            steps: FixedVec::empty(FILLER),
         }
     }
 
-    // The script of these steps, if they are not more than a page may have.
+    // The script of these steps, if they are not more than a page may have: there is no error to name beside that.
     pub fn new(steps: &[Step]) -> Option<Script>
         ensures { steps_taken result ≡ (if nat_le (length steps.now) 2000 then Some steps.now else None) }
     {
-        if steps.len() > 2000 {
-            return None;
-        }
-        let count = steps.len();
-        let mut script = Script::empty();
-        script.steps[0..count].copy_from_slice(steps);
-        script.count = count;
-        Some(script)
+        let steps = FixedVec::from_slice(steps, FILLER)?;
+        Some(Script { steps })
     }
 
     pub fn steps(&self) -> &[Step]
         ensures steps { result.now ≡ steps_of self.now }
         ensures few { length result.now ≤ 2000 }
     {
-        &self.steps[0..self.count]
+        self.steps.as_slice()
     }
 
     // So many steps of eight bytes each.
@@ -106,17 +101,13 @@ impl Script {
         requires { (count ≤ 2000) × (length body.now ≡ count * 8) }
         ensures { steps_read result ≡ steps_in count body.now }
     {
-        let mut steps = [Step::Wait(Call::Nothing); 2000];
-        let mut rest = body;
-        for i in 0..count {
-            let (first, more) = rest.split_at(8);
-            let Some(step) = decode::step(first) else {
-                return Err(Unreadable::UnknownStep);
-            };
-            steps[i] = step;
-            rest = more;
+        let mut script = Script::empty();
+        for bytes in body.chunks_exact(8) {
+            let step = decode::step(bytes).ok_or(Unreadable::UnknownStep)?;
+            // there is room: steps are at most 2,000
+            let _ = script.steps.push(step);
         }
-        Ok(Script { steps, count })
+        Ok(script)
     }
 
     // The script of a page file.
@@ -140,7 +131,7 @@ impl Script {
         if page.len() < size {
             return None;
         }
-        page[0..8].copy_from_slice(&first_bytes(steps.len()));
+        page[..8].copy_from_slice(&first_bytes(steps.len()));
         encode(steps, &mut page[8..size]);
         Some(size)
     }

@@ -1,9 +1,8 @@
-use Rattle.std.proofs.Common.{◌≡◌, ◌*◌, ◌<◌, length, take, sym, ap, ◌∙◌, subst, arith, length-drop, length-take}
-use Rattle.std.specs.List.{flat_map, AllByRecursion}
+use Rattle.std.proofs.Common.{◌≡◌, ◌*◌, ◌<◌, length, take, ◌∙◌, subst, arith, length-drop, length-take}
+use Rattle.std.specs.List.{AllByRecursion}
 use Rattle.std.proofs.lemmas.List.{take_all}
 use Rattle.std.proofs.lemmas.Slice.{take-put_mid}
 use Rattle.std.proofs.ByRecursion.{All-more}
-use Rattle.scripts.specs.Page.{step_bytes}
 use Rattle.scripts.proofs.Writing.{ReadBack, joined_step, back_all}
 use Rattle.scripts.proofs.page.encode.Goals as goal
 
@@ -17,12 +16,7 @@ loop-i-preserved c =
       All-more ReadBack _ _ _ within c.loop-i.invariant.1 c.step.ensures.back,
     )
 
-pub returns : goal.returns
-returns c =
-    let steps = c.args.steps.now in
-    let whole : take c.loop-i.i steps ≡ steps = take_all _ _ (omega arith) in
-    let full : take (c.loop-i.i * 8) c.loop-i.out ≡ c.loop-i.out = take_all _ _ (omega arith) in
-    record {
-      bytes = sym full ∙ c.loop-i.invariant.0 ∙ ap (flat_map step_bytes) whole;
-      back = back_all steps (subst (AllByRecursion ReadBack) whole c.loop-i.invariant.1);
-    }
+pub returns-clause-back : goal.returns-clause-back
+returns-clause-back c =
+    let whole : take c.loop-i.i c.args.steps.now ≡ c.args.steps.now = take_all _ _ (omega arith) in
+    back_all _ (subst (AllByRecursion ReadBack) whole c.loop-i.invariant.1)
