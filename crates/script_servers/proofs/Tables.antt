@@ -1,27 +1,24 @@
--- Tables of sites that are compared, site by site.
-use Rattle.std.proofs.Common.{◌≡◌, ℕ, ◌+◌, ◌<◌, ◌≤◌, List, length, get_or, take, sym, ap, ◌∙◌, arith}
-use Rattle.std.proofs.lemmas.List.{length-map, get_or-map, take_all, take_more_same}
+-- Tables of sites, decided by their hosts and ports.
+use Rattle.std.proofs.Common.{◌≡◌, ℕ, Bool, ◌&&◌, eqb, List, Decides, sym, refl, ◌∙◌}
+use Rattle.std.specs.Cmp.Lexicographic.{pointwise}
+use Rattle.std.specs.Cmp.Derive.Mapped.{pointwise-map}
+use Rattle.std.proofs.lemmas.Bool.{and_parts, and_from}
+use Rattle.std.proofs.lemmas.Bool.Decides.{Decides-eqb}
+use Rattle.std.proofs.lemmas.Slice.Eq.{slice_eq-Decides}
 use Rattle.addresses.specs.declared.Site.{Site}
-use Rattle.addresses.specs.Views.{site_of}
+use Rattle.addresses.specs.Views.{site_of, site_eq}
 use Rattle.script_servers.specs.Views.{sites_of}
 
-pub sites_long : (a b : List Site) → sites_of a ≡ sites_of b → length a ≡ length b
-sites_long a b e = sym (length-map a site_of) ∙ ap length e ∙ length-map b site_of
+abbrev same_parts : List ℕ × ℕ → List ℕ × ℕ → Bool
+same_parts a b = eqb a.1 b.1 && pointwise eqb a.0 b.0
 
-module _ (a b : List Site) (i : ℕ) (d : Site) (h : i < length a) (k : i < length b) where
-  pub sites-at : sites_of a ≡ sites_of b → site_of (get_or a i d) ≡ site_of (get_or b i d)
-  sites-at e =
-      sym (get_or-map site_of a i d (site_of d) h) ∙ ap (λ xs. get_or xs i (site_of d)) e ∙ get_or-map site_of b i d (site_of d) k
+pub parts_decide : (a b : List ℕ × ℕ) → Decides (same_parts a b) (a ≡ b)
+parts_decide a b =
+    let port = Decides-eqb a.1 b.1 in
+    let host = slice_eq-Decides Decides-eqb a.0 b.0 _ refl in (
+      λ t. let p = and_parts (eqb a.1 b.1) (pointwise eqb a.0 b.0) t in λ i. (host.0 p.1 i, port.0 p.0 i),
+      λ e. and_from (eqb a.1 b.1) (pointwise eqb a.0 b.0) (port.1 (λ i. (e i).1)) (host.1 (λ i. (e i).0)),
+    )
 
-  pub sites-more : take i (sites_of a) ≡ take i (sites_of b) → site_of (get_or a i d) ≡ site_of (get_or b i d) → take (i + 1) (sites_of a) ≡ take (i + 1) (sites_of b)
-  sites-more e f =
-      let left : i < length (sites_of a) = simp length-map (omega arith) in
-      let right : i < length (sites_of b) = simp length-map (omega arith) in
-      take_more_same (sites_of a) (sites_of b) i (site_of d) left right e
-      (get_or-map site_of a i d (site_of d) h ∙ f ∙ sym (get_or-map site_of b i d (site_of d) k))
-
-pub sites-all : (a b : List Site) (i : ℕ) → length a ≤ i → length b ≤ i → take i (sites_of a) ≡ take i (sites_of b) → sites_of a ≡ sites_of b
-sites-all a b i h k e =
-    let left : length (sites_of a) ≤ i = simp length-map (omega arith) in
-    let right : length (sites_of b) ≤ i = simp length-map (omega arith) in
-    sym (take_all i (sites_of a) left) ∙ e ∙ take_all i (sites_of b) right
+pub sites_decide : (a b : List Site) (r : Bool) → r ≡ pointwise site_eq a b → Decides r (sites_of a ≡ sites_of b)
+sites_decide a b r e = slice_eq-Decides parts_decide (sites_of a) (sites_of b) r (e ∙ sym (pointwise-map site_of same_parts a b))

@@ -1,5 +1,6 @@
 -- Texts that are written to a room, all or nothing.
 use Rattle.std.proofs.Common.{◌≡◌, ℕ, ◌≤◌, Bool, true, false, cond, leb, List, [], ◌++◌, length, take, drop, Some, None, Option, sym, refl, ap, ◌∙◌, arith, length-append}
+use Rattle.std.specs.Option.{unwrap_or}
 use Rattle.std.proofs.lemmas.List.{take_at}
 use Rattle.octets.specs.Buffers.{written, count}
 use Rattle.servers.specs.Answering.{fitting}
@@ -10,9 +11,8 @@ both : {X : Type 0} (b : Bool) (x : X) → cond b x x ≡ x
 both true x = refl
 both false x = refl
 
-abbrev pub size_of : Option ℕ → ℕ
-size_of None = 0
-size_of (Some n) = n
+abbrev size_of : Option ℕ → ℕ
+size_of o = unwrap_or o 0
 
 sized : (b : Bool) (n : ℕ) → size_of (cond b (Some n) None) ≡ cond b n 0
 sized true n = refl

@@ -4,7 +4,6 @@ ghost use Rattle.std.specs.Prelude.{◌≡◌, vec_len};
 use crate::server::Server;
 use addresses::Site;
 
-mod compare;
 mod make;
 mod serve;
 

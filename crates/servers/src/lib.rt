@@ -26,6 +26,7 @@ pub trait Servers {
         ensures after { states self.new ≡ at site (serving site request.now (states self.old site)).1 (states self.old) };
 
     // Is a site's server in the same state in both? Sites have numbers below 16, and beyond nothing differs.
+    // No `==`: that would compare all sites.
     fn same(&self, other: &Self, site: u8) -> bool
         ensures state { Decides result (states self.now site ≡ states other.now site) }
         ensures beyond { (s : ℕ) → 16 ≤ s → states self.now s ≡ states other.now s };

@@ -12,7 +12,7 @@ fn a_page_that_can_be_read_gives_its_steps(rt: HostRuntime) -> Result<(), Fail> 
     let size = script.write(&mut page).ok_or("no room")?;
     assert_eq!(rt; size, 24);
     let (read, fault) = script_of(Some(&page));
-    assert!(rt; read.same(&script));
+    assert!(rt; read == script);
     assert_eq!(rt; fault, None);
     Ok(())
 }

@@ -96,7 +96,7 @@ fn eight_words_wait_and_the_ninth_is_dropped(rt: HostRuntime) -> Result<(), Fail
     let mut w = window(0, &echo())?;
     for i in 0..9u8 {
         let heard = w.hears(0, &word(1, &[i])?);
-        assert_eq!(rt; heard.same(&w), i == 8);
+        assert_eq!(rt; heard == w, i == 8);
         w = heard;
     }
     check_told(&rt, &mut w, 1, 0, b"/p")?;
@@ -118,7 +118,7 @@ fn only_a_window_of_the_named_site_hears(rt: HostRuntime) -> Result<(), Fail> {
         (256, false),
         (0x1_0000, false),
     ] {
-        assert_eq!(rt; w.hears(named, &message).same(&w), !hears);
+        assert_eq!(rt; w.hears(named, &message) == w, !hears);
     }
     Ok(())
 }
@@ -128,10 +128,10 @@ fn check_lost(rt: &impl Abort, steps: &[Step], outcome: Outcome) -> Result<(), F
     let mut without = window(2, steps)?;
     let _begun = without.step(16);
     let mut with = without.hears(2, &word(1, b"lost")?);
-    assert!(rt; !with.same(&without));
+    assert!(rt; with != without);
     assert_eq!(rt; with.step(16), outcome);
     assert_eq!(rt; without.step(16), outcome);
-    assert!(rt; with.same(&without));
+    assert!(rt; with == without);
     Ok(())
 }
 
@@ -149,8 +149,8 @@ fn a_word_is_taken_once_the_script_has_ended(rt: HostRuntime) -> Result<(), Fail
 fn more_than_4096_bytes_are_not_told(rt: HostRuntime) -> Result<(), Fail> {
     let w = window(1, &echo())?;
     let bytes = [b'x'; 4097];
-    assert!(rt; w.owns(Told::Kept, &bytes).same(&w));
-    assert!(rt; !w.owns(Told::Kept, &bytes[0..4096]).same(&w));
+    assert!(rt; w.owns(Told::Kept, &bytes) == w);
+    assert!(rt; w.owns(Told::Kept, &bytes[0..4096]) != w);
     Ok(())
 }
 

@@ -1,4 +1,1 @@
-pub mod Opening
-pub mod Queues
 pub mod Same
-pub mod Turns

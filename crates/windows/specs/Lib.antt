@@ -1,3 +1,4 @@
 pub mod Scripts
 pub mod Queues
 pub mod Windows
+pub mod Same

@@ -1,7 +1,8 @@
 -- The words that wait for a window.
-use Rattle.std.specs.Prelude.{Bool, cond, nat_eq, List, [], ◌∷◌, ◌++◌, map, length, take, Some, None, Option, nat_lt}
+use Rattle.std.specs.Prelude.{Bool, cond, nat_eq, List, [], ◌∷◌, ◌++◌, map, length, Some, None, Option, nat_lt}
 use Rattle.std.specs.Ordering.{on, eq_of_both}
 use Rattle.std.specs.Cmp.Lexicographic.{pointwise}
+use Rattle.bounded.specs.Fixed.{items_of}
 use Rattle.bounded.specs.Texts.{text_of}
 use Rattle.bounded.specs.Numbers.{number_of}
 use Rattle.pages.specs.Browser.{Word, most_words}
@@ -18,7 +19,7 @@ same_words = eq_of_both (on (λ word. word.from) nat_eq) (on (λ word. word.what
 
 -- The words in a queue, the oldest first.
 abbrev pub words_of : Queue → List Word
-words_of q = map word_of (take q.count q.words)
+words_of q = map word_of (items_of q.words)
 
 -- One word more, if there is room.
 abbrev pub appended : Word → List Word → List Word

@@ -7,9 +7,9 @@ use Rattle.scripts.specs.declared.Unreadable.{Unreadable}
 use Rattle.scripts.specs.Page.{page_in}
 use Rattle.machine.specs.declared.Told.{Told as MachineTold}
 use Rattle.machine.specs.declared.Told.TheVariants as by
-use Rattle.machine.specs.Limits.{is_path}
 use Rattle.machine.specs.declared.Outcome.{Outcome}
 use Rattle.machine.specs.Script.{State, initial, Action, nothing, asks, says, keeps, looks, opens, turn_from, action_in, state_after}
+use Rattle.addresses.specs.Address.{path_ok}
 use Rattle.pages.specs.Sites.{Bytes, Scripts, Act, Idle, Asks, Says, Keeps, Looks, Opens, Told, Silence, Begun, Answer, Barred, Heard, Kept}
 
 -- What a script is told, with the bytes that go with it. Silence and a barred answer have none.
@@ -93,8 +93,8 @@ by_machine n = record {
 -- An act that is done is in its limits: its site is one of so many, its path is one, and its bytes are few enough.
 abbrev pub InLimits : ℕ → Act → Type 0
 InLimits n Idle = Unit {0}
-InLimits n (Asks site path body) = (site < n) × (is_path path ≡ true) × (length body ≤ 1024)
+InLimits n (Asks site path body) = (site < n) × (path_ok path ≡ true) × (length body ≤ 1024)
 InLimits n (Says window site what) = (site < n) × (length what ≤ 1024)
 InLimits n (Keeps what) = length what ≤ 4096
 InLimits n Looks = Unit {0}
-InLimits n (Opens site path) = (site < n) × (is_path path ≡ true)
+InLimits n (Opens site path) = (site < n) × (path_ok path ≡ true)

@@ -10,14 +10,11 @@ use scripts::{Call, Script, Step, Unreadable};
 fn idle_script() -> Script
     ensures { steps_of result ≡ idle_steps }
 {
-    match Script::new(&[Step::Wait(Call::Nothing), Step::Jump(0)]) {
-        Some(script) => script,
-        None => Script::empty(),
-    }
+    Script::new(&[Step::Wait(Call::Nothing), Step::Jump(0)]).unwrap_or(Script::empty())
 }
 
 // The script of a page, and why it cannot be read, if it cannot. An unreadable page, and none, give the script that
-// does nothing.
+// does nothing. A pair and no Result: with a fault goes a script too.
 pub fn script_of(page: Option<&[u8]>) -> (Script, Option<Unreadable>)
     ensures steps { steps_of result.0 ≡ steps_from (option_map (λ x. x.now) page.entry) }
     ensures fault { result.1 ≡ unreadable_in (option_map (λ x. x.now) page.entry) }

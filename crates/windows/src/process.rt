@@ -1,6 +1,10 @@
 // A script that runs.
 ghost use Rattle.std.specs.Prelude.{◌≡◌, Decides};
+ghost use Rattle.std.specs.Ordering.{on};
+ghost use Rattle.std.specs.Cmp.Rules.{comparing};
+ghost use Rattle.std.proofs.Common.{rules};
 ghost use Rattle.machine.specs.Limits.{part};
+ghost use Rattle.machine.specs.Same.{same_states};
 ghost use Rattle.machine.specs.Script.{initial, done_in};
 ghost use Rattle.scripts.specs.Scripts.{steps_of};
 ghost use Rattle.pages.specs.Browser.{named};
@@ -10,7 +14,8 @@ ghost use Rattle.windows.specs.Windows.{state_of};
 use machine::{Machine, Outcome, Span, Told};
 use scripts::Script;
 
-// A script, which stays the same, with its machine and its memory.
+// A script, which stays the same, with its machine and its memory. A server made of a script holds these three as well;
+// a struct for both, in a crate below, would lay machine and memory open to both crates.
 #[derive(Clone, Copy)]
 pub(crate) struct Process {
     script: Script,
@@ -48,14 +53,18 @@ impl Process {
         let end = (from + span.len as usize).min(4096);
         &self.memory[from..end]
     }
+}
 
-    // Are both in the same state?
-    pub(crate) fn same(&self, other: &Process) -> bool
-        ensures { Decides result (state_of self.now ≡ state_of other.now) }
+// By hand: a derive carries no clause, and the equality is that of the states.
+impl PartialEq for Process {
+    ghost eq = { on state_of same_states };
+
+    ghost laws = { Prim.search (comparing, rules) depth 12 };
+
+    fn eq(&self, other: &Process) -> bool
+        ensures is { result ≡ on state_of same_states self.now other.now }
+        ensures same { Decides result (state_of self.now ≡ state_of other.now) }
     {
-        if !self.machine.same(&other.machine) || !self.script.same(&other.script) {
-            return false;
-        }
-        self.memory == other.memory
+        self.machine == other.machine && self.memory == other.memory && self.script == other.script
     }
 }

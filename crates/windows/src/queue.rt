@@ -1,5 +1,4 @@
-ghost use Rattle.std.specs.Prelude.{◌≡◌, ◌≤◌, length};
-
+use bounded::fixed::FixedVec;
 use bounded::site::SiteNumber;
 use bounded::text::Text;
 
@@ -12,11 +11,9 @@ pub struct Word {
     pub text: Text<1024>,
 }
 
-// The words that wait for a window: up to eight, the oldest first.
+// The words that wait for a window: up to eight, the oldest first. By value: a turn claims no memory, and the kit's own
+// vector of fixed room cannot be copied as windows are.
 #[derive(Clone, Copy)]
 pub(crate) struct Queue {
-    words: [Word; 8],
-    count: usize,
-    ghost full: { length words ≡ 8 },
-    ghost few: { count ≤ 8 },
+    words: FixedVec<Word, 8>,
 }

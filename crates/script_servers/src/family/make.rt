@@ -23,10 +23,7 @@ impl<'a> ScriptServers<'a> {
         ensures answer { result ≡ added site (page_in page.now) }
         ensures after { states_of self.new ≡ added_to self.old site (page_in page.now) }
     {
-        let script = match Script::read(page) {
-            Ok(script) => script,
-            Err(fault) => return Err(fault),
-        };
+        let script = Script::read(page)?;
         if site >= 16 {
             return Ok(false);
         }

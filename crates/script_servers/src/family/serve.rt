@@ -4,7 +4,6 @@ ghost use Rattle.script_servers.specs.Family.{states_of};
 ghost use Rattle.script_servers.specs.Serving.{Player, serving};
 
 use super::ScriptServers;
-use super::compare::same_sites;
 use servers::Servers;
 
 impl<'a> Servers for ScriptServers<'a> {
@@ -22,15 +21,14 @@ impl<'a> Servers for ScriptServers<'a> {
         self.servers[site as usize].serve(sites, request, room)
     }
 
+    // Not `==`: one site's servers are compared.
     fn same(&self, other: &ScriptServers<'a>, site: u8) -> bool {
         if site >= 16 {
             return true;
         }
         let mine = &self.servers[site as usize];
         let theirs = &other.servers[site as usize];
-        if !same_sites(self.sites, other.sites) {
-            return false;
-        }
-        mine.same(theirs)
+        let same_sites = self.sites == other.sites;
+        same_sites && *mine == *theirs
     }
 }

@@ -8,7 +8,7 @@ ghost use Rattle.script_servers.specs.Told.{kind_of, kind_number, number_from, a
 ghost use Rattle.script_servers.specs.Views.{state_of, sites_of};
 
 use super::Server;
-use addresses::{Site, same_site};
+use addresses::Site;
 use answers::Kind;
 use octets::pieces::put_all;
 use requests::Request;
@@ -22,6 +22,7 @@ pub(crate) fn kind_of(request: Request<'_>) -> Kind
     }
 }
 
+// By name: a From would need one of its two types to be of this crate.
 fn kind_number(kind: Kind) -> u32
     ensures { result ≡ kind_number kind }
 {
@@ -31,26 +32,18 @@ fn kind_number(kind: Kind) -> u32
     }
 }
 
-// The number of a site in the table; 16 for one that has none.
+// The number of a site in the table; 16 for one that has none. Only the first 16 sites have numbers.
 fn number_of(sites: &[Site<'_>], site: Site<'_>) -> u32
     ensures { result ≡ number_from 0 (sites_of sites.now) (site_of site.entry) }
 {
-    let mut n = 0;
-    for known in sites {
-        if n >= 16 {
-            return 16;
-        }
-        if same_site(*known, site) {
-            return n;
-        }
-        n += 1;
-    }
-    16
+    let place = sites.iter().take(16).position(|known| *known == site);
+    place.unwrap_or(16) as u32
 }
 
 fn asker_in(sites: &[Site<'_>], origin: Option<Site<'_>>) -> u32
     ensures { result ≡ asker_in (sites_of sites.now) (option_map site_of origin.entry) }
 {
+    // By `let`: the closure of a `map_or` would need a clause of its own.
     let Some(site) = origin else {
         return 16;
     };
@@ -66,10 +59,7 @@ fn size(part: &[u8]) -> u32
 fn token_size(token: Option<&[u8]>) -> u32
     ensures { result ≡ token_size (option_map (λ x. x.now) token.entry) }
 {
-    let Some(token) = token else {
-        return 65;
-    };
-    size(token)
+    token.map_or(65, size)
 }
 
 fn numbers_of(sites: &[Site<'_>], request: Request<'_>) -> [u32; 5]
@@ -87,10 +77,7 @@ fn numbers_of(sites: &[Site<'_>], request: Request<'_>) -> [u32; 5]
 fn place(request: Request<'_>, memory: &mut [u8])
     ensures { memory.new ≡ written (bytes_of (asking_of request.entry)) memory.old }
 {
-    let Some(token) = request.token else {
-        let _ = put_all(memory, &[request.body, request.path]);
-        return;
-    };
+    let token = request.token.unwrap_or(&[]);
     let _ = put_all(memory, &[request.body, request.path, token]);
 }
 

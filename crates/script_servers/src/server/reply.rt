@@ -29,27 +29,18 @@ fn token_by(len: u32, bytes: Option<&[u8]>) -> Option<Option<&[u8]>>
     if len > 64 {
         return Some(None);
     }
-    let Some(token) = bytes else {
-        return None;
-    };
-    Some(Some(token))
+    bytes.map(Some)
 }
 
 // Whom an answer allows: 16 is nobody, 17 everybody, and another number is a site's.
 fn allowed_by<'a>(sites: &'a [Site<'a>], n: u32) -> Option<Option<Allowed<'a>>>
     ensures { option_map (option_map allows_of) result ≡ allows_by (sites_of sites.now) n }
 {
-    if n == 16 {
-        return Some(None);
+    match n {
+        16 => Some(None),
+        17 => Some(Some(Allowed::Everybody)),
+        _ => Some(Some(Allowed::Site(*sites.get(n as usize)?))),
     }
-    if n == 17 {
-        return Some(Some(Allowed::Everybody));
-    }
-    let at = n as usize;
-    if at >= sites.len() {
-        return None;
-    }
-    Some(Some(Allowed::Site(sites[at])))
 }
 
 impl Server {
@@ -57,9 +48,7 @@ impl Server {
     fn part(&self, a: u8) -> Option<&[u8]>
         ensures { option_map (λ x. x.now) result ≡ part_at (state_of self.now) a }
     {
-        let Some(span) = self.machine.span(a, self.memory.len()) else {
-            return None;
-        };
+        let span = self.machine.span(a, self.memory.len()).ok()?;
         let from = span.from as usize;
         Some(&self.memory[from..from + span.len as usize])
     }
@@ -67,23 +56,11 @@ impl Server {
     fn content<'s>(&'s self, sites: &'s [Site<'s>]) -> Option<Response<'s>>
         ensures { option_map content_of result ≡ content_at (sites_of sites.now) (state_of self.now) }
     {
-        let Some(code) = code_by(self.machine.register(9)) else {
-            return None;
-        };
-        let Some(allowed) = allowed_by(sites, self.machine.register(10)) else {
-            return None;
-        };
-        let Some(body) = self.part(11) else {
-            return None;
-        };
-        let Some(token) = token_by(self.machine.register(14), self.part(13)) else {
-            return None;
-        };
         Some(Response {
-            code,
-            token,
-            allowed,
-            body,
+            code: code_by(self.machine.register(9))?,
+            allowed: allowed_by(sites, self.machine.register(10))?,
+            body: self.part(11)?,
+            token: token_by(self.machine.register(14), self.part(13))?,
         })
     }
 
@@ -94,10 +71,7 @@ impl Server {
         let Some(content) = self.content(sites) else {
             return 0;
         };
-        let Some(n) = write_answer(room, kind, content) else {
-            return 0;
-        };
-        n
+        write_answer(room, kind, content).unwrap_or(0)
     }
 
     fn raw(&self, room: &mut [u8]) -> usize
@@ -107,10 +81,7 @@ impl Server {
         let Some(bytes) = self.part(11) else {
             return 0;
         };
-        let Some(n) = put_all(room, &[bytes]) else {
-            return 0;
-        };
-        n
+        put_all(room, &[bytes]).unwrap_or(0)
     }
 
     // Writes what came of a turn.

@@ -4,14 +4,14 @@ ghost use Rattle.pages.specs.Browser.{other_words};
 ghost use Rattle.std.specs.Option.{option_map};
 ghost use Rattle.windows.specs.Queues.{word_of, words_of, same_words, appended, oldest};
 ghost use Rattle.std.specs.Ordering.{on};
+ghost use Rattle.std.specs.Cmp.Lexicographic.{pointwise};
 ghost use Rattle.std.specs.Cmp.Rules.{comparing};
 ghost use Rattle.std.proofs.Common.{rules};
 
 use super::{Queue, Word};
+use bounded::fixed::FixedVec;
 
-// The most words that wait for a window.
-const MOST: usize = 8;
-
+// By hand: a derive carries no clause, and what `==` decides is promised.
 impl PartialEq for Word {
     ghost eq = { on word_of same_words };
 
@@ -21,7 +21,7 @@ impl PartialEq for Word {
         ensures is { result ≡ on word_of same_words self.now other.now }
         ensures same { Decides result (word_of self.now ≡ word_of other.now) }
     {
-        self.from.same(other.from) && self.text.same(&other.text)
+        self.from == other.from && self.text == other.text
     }
 }
 
@@ -31,8 +31,7 @@ impl Queue {
         ensures { words_of result ≡ [] }
     {
         Queue {
-            words: [filler; 8],
-            count: 0,
+            words: FixedVec::empty(filler),
         }
     }
 
@@ -40,11 +39,7 @@ impl Queue {
     pub(crate) fn push(&mut self, word: &Word)
         ensures { words_of self.new ≡ appended (word_of word.now) (words_of self.old) }
     {
-        let n = self.count;
-        if n < MOST {
-            self.words[n] = *word;
-            self.count = n + 1;
-        }
+        let _ = self.words.push(*word);
     }
 
     // The oldest word, if one waits. It waits no more.
@@ -52,21 +47,20 @@ impl Queue {
         ensures word { option_map word_of result ≡ oldest (words_of self.old) }
         ensures others { words_of self.new ≡ other_words (words_of self.old) }
     {
-        if self.count == 0 {
-            return None;
-        }
-        let word = self.words[0];
-        self.words.rotate_left(1);
-        self.count -= 1;
-        Some(word)
+        self.words.pop_first()
     }
+}
 
-    // Do the same words wait?
-    pub(crate) fn same(&self, other: &Queue) -> bool
-        ensures { Decides result (words_of self.now ≡ words_of other.now) }
+// By hand: a derive carries no clause, and what `==` decides is promised.
+impl PartialEq for Queue {
+    ghost eq = { on words_of (pointwise same_words) };
+
+    ghost laws = { Prim.search (comparing, rules) depth 12 };
+
+    fn eq(&self, other: &Queue) -> bool
+        ensures is { result ≡ on words_of (pointwise same_words) self.now other.now }
+        ensures same { Decides result (words_of self.now ≡ words_of other.now) }
     {
-        let a = &self.words[0..self.count];
-        let b = &other.words[0..other.count];
-        a == b
+        self.words == other.words
     }
 }

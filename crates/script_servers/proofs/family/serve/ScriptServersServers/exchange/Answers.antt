@@ -1,19 +1,8 @@
-use Rattle.std.proofs.Common.{length, ap, ◌∙◌, arith}
+use Rattle.std.proofs.Common.{length, ap, ◌∙◌}
 use Rattle.servers.specs.Answering.{fitting}
-use Rattle.script_servers.specs.Family.{states_of}
-use Rattle.script_servers.proofs.Families.{family_long, family_past, unserved_states, unserved_answer, served-answer, served_states}
-use Rattle.script_servers.proofs.Texts.{nothing-fits, written-within, written-front}
+use Rattle.script_servers.proofs.Families.{family_long, served-answer, served_states}
+use Rattle.script_servers.proofs.Texts.{written-within, written-front}
 use Rattle.script_servers.proofs.family.serve.ScriptServersServers.exchange.Goals as goal
-
-pub returns-then-site-ge16 : goal.returns-then-site-ge16
-returns-then-site-ge16 c =
-    let none = family_past c.args.self.now _ c.if-site-ge16.true in
-    let room = length c.args.room.now in
-    record {
-      within = omega arith;
-      answer = nothing-fits room ∙ ap (fitting room) (unserved_answer (states_of c.args.self.now) _ c.args.request.now none);
-      after = unserved_states (states_of c.args.self.now) _ c.args.request.now none;
-    }
 
 pub returns : goal.returns
 returns c =
