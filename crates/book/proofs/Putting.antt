@@ -1,13 +1,9 @@
 -- Texts put into a room one after another.
-use Rattle.std.proofs.Common.{◌≡◌, ℕ, ◌+◌, ◌≤◌, List, [], ◌∷◌, ◌++◌, length, take, drop, Some, None, Option, sym, refl, ap, ◌∙◌, subst, append_assoc, append-nil, add-zero, arith, length-append, length-drop, length-take}
+use Rattle.std.proofs.Common.{◌≡◌, ℕ, ◌+◌, ◌≤◌, List, [], ◌∷◌, ◌++◌, length, take, drop, sym, refl, ap, ◌∙◌, subst, append_assoc, append-nil, arith, length-append, length-drop, length-take}
 use Rattle.octets.specs.Buffers.{over}
-use Rattle.octets.proofs.Puts.{over-over, over_none}
+use Rattle.octets.proofs.Puts.{over-over}
 use Rattle.pages.specs.Outs.{Out}
-use Rattle.browser.specs.declared.values.Out as values
-use Rattle.browser.specs.Values.{outs_of}
-use Rattle.words.specs.Hex.{AllBytes}
 use Rattle.book.specs.Lines.{bytes_text, out_text, outs_text}
-use Rattle.book.specs.Ranges.{BytesIn}
 use Rattle.book.specs.Putting.{Puts}
 
 length_over : (at : ℕ) (out t : List ℕ) → at + length t ≤ length out → length (over at out t) ≡ length out
@@ -27,10 +23,6 @@ puts_then at n r t u v out mid end same first second fits =
     let b = second (omega arith) in
     (omega (arith, b.0), b.1 ∙ (λ i. over (place i) (a.1 i) (same i)) ∙ over-over at out t v room)
 
--- no text at all
-pub puts_none : (at : ℕ) (out : List ℕ) → Puts at [] out at out
-puts_none at out fits = (sym (add-zero at), sym (over_none at out))
-
 -- the last of several texts, of which none follows
 pub puts_last : (at r : ℕ) (t out end : List ℕ) → Puts at t out r end → Puts at (t ++ []) out r end
 puts_last at r t out end puts = subst (λ (l : List ℕ). Puts at l out r end) (sym (append-nil t)) puts
@@ -40,18 +32,9 @@ pub outs-append : (xs ys : List Out) → outs_text (xs ++ ys) ≡ outs_text xs +
 outs-append [] ys = refl
 outs-append (x ∷ xs) ys = ap (λ l. out_text x ++ l) (outs-append xs ys) ∙ sym (append_assoc (out_text x) (outs_text xs) (outs_text ys))
 
--- at most one, as a list
-pub one_out : (o : Option values.Out) → length (outs_of o) ≤ 1
-one_out None = omega arith
-one_out (Some o) = omega arith
-
 -- bytes of a slice that are known as h
 pub puts_same : (at r : ℕ) (slice h out end : List ℕ) → slice ≡ h → Puts at (bytes_text slice) out r end → Puts at (bytes_text h) out r end
 puts_same at r slice h out end same puts = subst (λ (l : List ℕ). Puts at (bytes_text l) out r end) same puts
 
 pub puts_bytes : (at n r : ℕ) (t slice h out mid end : List ℕ) → slice ≡ h → Puts at t out n mid → Puts n (bytes_text slice) mid r end → Puts at (t ++ bytes_text h) out r end
 puts_bytes at n r t slice h out mid end same first second = puts_then at n r t (bytes_text slice) (bytes_text h) out mid end (ap bytes_text same) first second
-
--- what stands in a slice is within a bound
-pub bytes_in : (n : ℕ) (slice h : List ℕ) → slice ≡ h → length slice ≤ n → AllBytes slice → BytesIn n h
-bytes_in n slice h same short all = subst (BytesIn n) same (short, all)

@@ -24,30 +24,22 @@ pub struct Line {
 fn site(text: &mut Scanner<'_>, word: &[u8]) -> Option<SiteNumber>
     ensures { with (option_map number_of result) (rest_of text.new) ≡ site_after word.now (rest_of text.old) }
 {
-    let Some(n) = text.number(word, 15) else {
-        return None;
-    };
+    let n = text.number(word, 15)?;
     SiteNumber::new(n as u32)
 }
 
 fn turn(text: &mut Scanner<'_>) -> Option<Event>
     ensures { with (option_map event_of result) (rest_of text.new) ≡ turn_then (rest_of text.old) }
 {
-    let Some(n) = text.number(b"", u32::MAX as u64) else {
-        return None;
-    };
+    let n = text.number(b"", u32::MAX as u64)?;
     Some(Event::Turn { window: n as u32 })
 }
 
 fn open(text: &mut Scanner<'_>) -> Option<Event>
     ensures { with (option_map event_of result) (rest_of text.new) ≡ open_then (rest_of text.old) }
 {
-    let Some(to) = site(text, b"") else {
-        return None;
-    };
-    let Some(path) = text.bytes(b" x") else {
-        return None;
-    };
+    let to = site(text, b"")?;
+    let path = text.bytes(b" x")?;
     Some(Event::Opening { site: to, path })
 }
 
@@ -63,31 +55,24 @@ fn event(text: &mut Scanner<'_>) -> Option<Event>
     None
 }
 
-// The site of the window, or a dash.
+// The site of the window, or a dash: two answers, beside the one that neither stands here.
 fn window(text: &mut Scanner<'_>) -> Option<Option<SiteNumber>>
     ensures { with (option_map (option_map number_of) result) (rest_of text.new) ≡ window_then (rest_of text.old) }
 {
     if text.skip(b" -") {
         return Some(None);
     }
-    let Some(own) = site(text, b" ") else {
-        return None;
-    };
-    Some(Some(own))
+    Some(Some(site(text, b" ")?))
 }
+
+// What is let out, of each kind: each has parts of its own, in their order.
 
 fn asks(text: &mut Scanner<'_>, from: SiteNumber) -> Option<Out>
     ensures { with (option_map out_of result) (rest_of text.new) ≡ asks_then (number_of from) (rest_of text.old) }
 {
-    let Some(to) = site(text, b"") else {
-        return None;
-    };
-    let Some(path) = text.bytes(b" x") else {
-        return None;
-    };
-    let Some(body) = text.bytes(b" x") else {
-        return None;
-    };
+    let to = site(text, b"")?;
+    let path = text.bytes(b" x")?;
+    let body = text.bytes(b" x")?;
     let what = What::Asked { path, body };
     Some(Out { from, to, what })
 }
@@ -95,15 +80,9 @@ fn asks(text: &mut Scanner<'_>, from: SiteNumber) -> Option<Out>
 fn says(text: &mut Scanner<'_>, from: SiteNumber) -> Option<Out>
     ensures { with (option_map out_of result) (rest_of text.new) ≡ says_then (number_of from) (rest_of text.old) }
 {
-    let Some(to) = site(text, b"") else {
-        return None;
-    };
-    let Some(n) = text.number(b" ", u32::MAX as u64) else {
-        return None;
-    };
-    let Some(said) = text.bytes(b" x") else {
-        return None;
-    };
+    let to = site(text, b"")?;
+    let n = text.number(b" ", u32::MAX as u64)?;
+    let said = text.bytes(b" x")?;
     let window = n as u32;
     let what = What::Said { window, what: said };
     Some(Out { from, to, what })
@@ -112,12 +91,8 @@ fn says(text: &mut Scanner<'_>, from: SiteNumber) -> Option<Out>
 fn opens(text: &mut Scanner<'_>, from: SiteNumber) -> Option<Out>
     ensures { with (option_map out_of result) (rest_of text.new) ≡ opens_then (number_of from) (rest_of text.old) }
 {
-    let Some(to) = site(text, b"") else {
-        return None;
-    };
-    let Some(path) = text.bytes(b" x") else {
-        return None;
-    };
+    let to = site(text, b"")?;
+    let path = text.bytes(b" x")?;
     let what = What::Opened { path };
     Some(Out { from, to, what })
 }
@@ -125,15 +100,9 @@ fn opens(text: &mut Scanner<'_>, from: SiteNumber) -> Option<Out>
 fn lets(text: &mut Scanner<'_>, from: SiteNumber) -> Option<Out>
     ensures { with (option_map out_of result) (rest_of text.new) ≡ lets_then (number_of from) (rest_of text.old) }
 {
-    let Some(to) = site(text, b"") else {
-        return None;
-    };
-    let Some(n) = text.number(b" ", u16::MAX as u64) else {
-        return None;
-    };
-    let Some(body) = text.bytes(b" x") else {
-        return None;
-    };
+    let to = site(text, b"")?;
+    let n = text.number(b" ", u16::MAX as u64)?;
+    let body = text.bytes(b" x")?;
     let code = n as u16;
     let what = What::Let { code, body };
     Some(Out { from, to, what })
@@ -160,44 +129,29 @@ fn what(text: &mut Scanner<'_>, from: SiteNumber) -> Option<Out>
 fn out(text: &mut Scanner<'_>) -> Option<Out>
     ensures { with (option_map out_of result) (rest_of text.new) ≡ out_then (rest_of text.old) }
 {
-    let Some(from) = site(text, b"") else {
-        return None;
-    };
+    let from = site(text, b"")?;
     what(text, from)
 }
 
-// What stands behind a bar, if there is one.
+// What stands behind a bar, if there is one: nothing at all is an answer too, and not that it can't be read.
 fn next_out(text: &mut Scanner<'_>) -> Option<Option<Out>>
     ensures { with (option_map outs_of result) (rest_of text.new) ≡ up_to_one (rest_of text.old) }
 {
     if !text.skip(b" | ") {
         return Some(None);
     }
-    let Some(first) = out(text) else {
-        return None;
-    };
-    Some(Some(first))
+    Some(Some(out(text)?))
 }
 
 // What follows the event's number, up to the newline.
 fn record(text: &mut Scanner<'_>) -> Option<Record>
     ensures { with (option_map entry_of result) (rest_of text.new) ≡ entry_then (rest_of text.old) }
 {
-    let Some(event) = event(text) else {
-        return None;
-    };
-    let Some(site) = window(text) else {
-        return None;
-    };
-    let Some(n) = text.number(b" ", u8::MAX as u64) else {
-        return None;
-    };
-    let Some(page) = next_out(text) else {
-        return None;
-    };
-    let Some(server) = next_out(text) else {
-        return None;
-    };
+    let event = event(text)?;
+    let site = window(text)?;
+    let n = text.number(b" ", u8::MAX as u64)?;
+    let page = next_out(text)?;
+    let server = next_out(text)?;
     if !text.skip(b"\n") {
         return None;
     }
@@ -214,12 +168,8 @@ fn record(text: &mut Scanner<'_>) -> Option<Record>
 fn next_line(text: &mut Scanner<'_>) -> Option<Line>
     ensures { with (option_map line_of result) (rest_of text.new) ≡ read_line (rest_of text.old) }
 {
-    let Some(number) = text.number(b"", u64::MAX) else {
-        return None;
-    };
-    let Some(record) = record(text) else {
-        return None;
-    };
+    let number = text.number(b"", u64::MAX)?;
+    let record = record(text)?;
     Some(Line { number, record })
 }
 
@@ -229,9 +179,9 @@ pub fn read_line(text: &mut Scanner<'_>) -> Option<Line>
     ensures stays { IfNone result (rest_of text.new ≡ rest_of text.old) }
 {
     let start = *text;
-    let Some(found) = next_line(text) else {
+    let found = next_line(text);
+    if found.is_none() {
         *text = start;
-        return None;
-    };
-    Some(found)
+    }
+    found
 }

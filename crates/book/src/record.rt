@@ -16,6 +16,7 @@ pub enum Event {
 pub struct Record {
     pub event: Event,
     pub site: Option<SiteNumber>,
+    // a number, since a line of the book may hold any
     pub fault: u8,
     pub page: Option<Out>,
     pub server: Option<Out>,

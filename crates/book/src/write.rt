@@ -18,6 +18,9 @@ use octets::pieces::put_from;
 use words::hex::put_bytes;
 use words::numbers::put_number;
 
+// Room and place are passed on from one function to the next: of a struct that lends the room, nothing is known of the
+// room's bytes once it is let go.
+
 // No line is longer.
 pub const LINE_ROOM: usize = 17_000;
 

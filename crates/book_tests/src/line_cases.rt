@@ -90,14 +90,10 @@ const BAD: [&[u8]; 60] = [
 // It is read to its end, and written as the same bytes.
 fn check_back(rt: &impl Abort, text: &[u8]) -> Result<(), Fail> {
     let mut scanner = Scanner { rest: text };
-    let Some(line) = read_line(&mut scanner) else {
-        return Err(Fail::new("a good line is refused"));
-    };
+    let line = read_line(&mut scanner).ok_or("a good line is refused")?;
     assert!(rt; scanner.rest.is_empty());
     let mut room = [0u8; LINE_ROOM];
-    let Some(n) = write_line(&mut room, line.number, &line.record) else {
-        return Err(Fail::new("there is room for every line"));
-    };
+    let n = write_line(&mut room, line.number, &line.record).ok_or("there is room for every line")?;
     assert!(rt; n <= LINE_ROOM);
     assert!(rt; &room[0..n] == text);
     Ok(())
@@ -138,9 +134,7 @@ fn one_by_one(rt: HostRuntime) -> Result<(), Fail> {
         rest: b"0 open 0 x2f 0 0\n1 turn 0 0 0\n2 turn\n3 turn 0 0 0\n",
     };
     for n in 0..2u64 {
-        let Some(line) = read_line(&mut scanner) else {
-            return Err(Fail::new("a good line is refused"));
-        };
+        let line = read_line(&mut scanner).ok_or("a good line is refused")?;
         assert_eq!(rt; line.number, n);
     }
     assert!(rt; read_line(&mut scanner).is_none());
@@ -149,13 +143,11 @@ fn one_by_one(rt: HostRuntime) -> Result<(), Fail> {
 }
 
 fn site(n: u32) -> Result<SiteNumber, Fail> {
-    match SiteNumber::new(n) {
-        Some(s) => Ok(s),
-        None => Err(Fail::new("no site's number")),
-    }
+    Ok(SiteNumber::new(n).ok_or("no site's number")?)
 }
 
 fn text<const N: usize>(bytes: &[u8]) -> Result<Text<N>, Fail> {
+    // By match: `ok_or` was tried, and the borrow checker does not cover it at a text of any room.
     match Text::new(bytes) {
         Some(t) => Ok(t),
         None => Err(Fail::new("too many bytes")),
@@ -181,9 +173,7 @@ fn forged(rt: HostRuntime) -> Result<(), Fail> {
         server: Some(out),
     };
     let mut room = [7u8; LINE_ROOM];
-    let Some(n) = write_line(&mut room, 14, &record) else {
-        return Err(Fail::new("there is room for every line"));
-    };
+    let n = write_line(&mut room, 14, &record).ok_or("there is room for every line")?;
     assert!(rt; n <= LINE_ROOM);
     assert!(rt;
         &room[0..n] == b"14 turn 2 1 0 | 1 says 0 4 x0a39207475726e2030203020300a\n".as_slice()

@@ -37,15 +37,9 @@ fn head_from(kind: Kind, s: &[u8]) -> Option<Head<'_>>
     ensures { option_map head_of result ≡ head_from kind s.now }
 {
     let (text, end) = split(Class::Visible, s);
-    let Some(site) = read_site(text) else {
-        return None;
-    };
-    let Some((len, end)) = number_after(end, b" ", MOST_BYTES as u64) else {
-        return None;
-    };
-    let Some(rest) = strip(end, b"\n") else {
-        return None;
-    };
+    let site = read_site(text)?;
+    let (len, end) = number_after(end, b" ", MOST_BYTES as u64)?;
+    let rest = strip(end, b"\n")?;
     if !rest.is_empty() {
         return None;
     }
@@ -60,12 +54,10 @@ pub fn read_head(line: &[u8]) -> Option<Head<'_>>
     if let Some(t) = strip(line, b"request ") {
         return head_from(Kind::Request, t);
     }
-    let Some(t) = strip(line, b"answer ") else {
-        return None;
-    };
-    head_from(Kind::Answer, t)
+    head_from(Kind::Answer, strip(line, b"answer ")?)
 }
 
+// By name: `AsRef` would not say that it is the word at the front of a head.
 fn word(kind: Kind) -> &'static [u8]
     ensures { result.now ≡ kind_text kind }
 {
@@ -75,6 +67,7 @@ fn word(kind: Kind) -> &'static [u8]
     }
 }
 
+// By name, since a list of pieces has one lifetime for all, and those of a head come from several places.
 fn put_head<'a>(
     out: &mut [u8],
     word: &'a [u8],

@@ -5,7 +5,7 @@ ghost use Rattle.pipes.specs.Carries.{Carried, is_broken};
 
 use crate::fault::{Fault, Lost};
 use crate::streams::{read_bytes, read_line, write_frame};
-use addresses::{Site, same_site};
+use addresses::Site;
 use bounded::site::SiteNumber;
 use frames::{HEAD_ROOM, Kind, read_head};
 use servers::carrier::Carrier;
@@ -21,19 +21,18 @@ pub struct Pipes<R, W> {
     pub lost: Option<Lost>,
 }
 
-// The answer's frame, which must be the asked site's.
+// The answer's frame, which must be the asked site's. The streams stand by themselves: the site is lent by the table, so
+// all of Pipes cannot be lent beside it.
 fn read_answer<R: Read>(input: &mut R, asked: Site<'_>, room: &mut [u8]) -> Result<usize, Lost>
     ensures { Within result (length room.new) }
 {
     let mut line = [0u8; HEAD_ROOM];
     let n = read_line(input, &mut line)?;
-    let Some(head) = read_head(&line[0..n]) else {
-        return Err(Lost::Broken(Fault::Head));
-    };
+    let head = read_head(&line[..n]).ok_or(Lost::Broken(Fault::Head))?;
     let Kind::Answer = head.kind else {
         return Err(Lost::Broken(Fault::Head));
     };
-    if !same_site(head.site, asked) {
+    if head.site != asked {
         return Err(Lost::Broken(Fault::Site));
     }
     let count = read_bytes(input, head.len as usize, room)?;
@@ -78,9 +77,6 @@ impl<R: Read, W: Write> Carrier for Pipes<R, W> {
     }
 
     fn is_broken(&self) -> bool {
-        match self.lost {
-            Some(Lost::Broken(_)) => true,
-            _ => false,
-        }
+        matches!(self.lost, Some(Lost::Broken(_)))
     }
 }

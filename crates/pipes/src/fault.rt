@@ -1,6 +1,8 @@
 // Why nothing more comes over a pair of streams.
-ghost use Rattle.std.specs.Prelude.{◌≡◌};
+ghost use Rattle.std.specs.Prelude.{◌≡◌, Some};
 ghost use Rattle.pipes.specs.Faults.{fault_text};
+
+use std::fmt;
 
 #[derive(Clone, Copy, PartialEq, Eq, Debug)]
 pub enum Fault {
@@ -22,7 +24,7 @@ pub enum Lost {
 }
 
 impl Fault {
-    // For people.
+    // For people: a text that is there for good, so that a program's own errors can hold it.
     pub fn text(self) -> &'static str
         ensures { result.now ≡ fault_text self }
     {
@@ -32,5 +34,13 @@ impl Fault {
             Fault::Head => "what came is no frame that is due",
             Fault::Site => "what came is a frame of another site",
         }
+    }
+}
+
+impl fmt::Display for Fault {
+    ghost output = { λ f. Some (fault_text f) };
+
+    fn fmt<W: fmt::Write>(&self, f: &mut fmt::Formatter<W>) -> fmt::Result {
+        f.write_str(self.text())
     }
 }

@@ -1,38 +1,17 @@
 // The other side: requests come in, and each gets its answer.
-ghost use Rattle.std.specs.Prelude.{◌≡◌, length, IfSome, Some};
-ghost use Rattle.addresses.specs.Views.{site_of};
-ghost use Rattle.bounded.specs.Numbers.{number_of};
-ghost use Rattle.pages.specs.Browser.{nth};
+ghost use Rattle.std.specs.Prelude.{length};
 ghost use Rattle.storage.specs.Tables.{table_of};
 ghost use Rattle.pipes.specs.Faults.{Within};
 ghost use Rattle.pipes.specs.Serving.{Served};
 
 use crate::fault::{Fault, Lost};
 use crate::streams::{read_bytes, read_line, write_frame};
-use addresses::{Site, same_site};
-use bounded::site::SiteNumber;
 use frames::{HEAD_ROOM, Head, Kind, read_head};
 use servers::carrier::Carrier;
 use std::io::{Read, Write};
 use storage::table::Table;
 
-// The number of a site, if it has one.
-fn number_of(table: &Table, site: Site<'_>) -> Option<SiteNumber>
-    ensures { IfSome result (λ n. nth (number_of n) (table_of table.now) ≡ Some (site_of site.entry)) }
-{
-    for n in 0..16u32 {
-        let Some(number) = SiteNumber::new(n) else {
-            return None;
-        };
-        let Some(other) = table.site(number) else {
-            return None;
-        };
-        if same_site(other, site) {
-            return Some(number);
-        }
-    }
-    None
-}
+// Streams, servers and rooms stand by themselves: of a struct that lends them, nothing is known of them once it is let go.
 
 // The answer to the request that follows its head. A request that is too long, or to a site that has no number, is
 // answered by no bytes.
@@ -50,10 +29,10 @@ fn respond<R: Read, C: Carrier>(
     let Some(len) = read_bytes(input, head.len as usize, request)? else {
         return Ok(0);
     };
-    let Some(number) = number_of(table, head.site) else {
+    let Some(number) = table.number_of(head.site) else {
         return Ok(0);
     };
-    Ok(servers.exchange(number.number(), &request[0..len], answer))
+    Ok(servers.exchange(number.number(), &request[..len], answer))
 }
 
 // One request and its answer, which is its site's.
@@ -69,14 +48,12 @@ fn serve_one<R: Read, W: Write, C: Carrier>(
 {
     let mut line = [0u8; HEAD_ROOM];
     let n = read_line(input, &mut line)?;
-    let Some(head) = read_head(&line[0..n]) else {
-        return Err(Lost::Broken(Fault::Head));
-    };
+    let head = read_head(&line[..n]).ok_or(Lost::Broken(Fault::Head))?;
     let Kind::Request = head.kind else {
         return Err(Lost::Broken(Fault::Head));
     };
     let count = respond(input, table, servers, head, request, answer)?;
-    write_frame(output, Kind::Answer, head.site, &answer[0..count])
+    write_frame(output, Kind::Answer, head.site, &answer[..count])
 }
 
 // Answers requests one after another, and says why it stopped. Servers are touched by exchanges with sites of the table,

@@ -1,5 +1,5 @@
 // Frames read from a stream and written to one.
-ghost use Rattle.std.specs.Prelude.{◌≤◌, length};
+ghost use Rattle.std.specs.Prelude.{◌≡◌, ◌≤◌, length};
 ghost use Rattle.pipes.specs.Faults.{Within, WithinSome};
 
 use crate::fault::{Fault, Lost};
@@ -8,31 +8,33 @@ use frames::{HEAD_ROOM, Head, Kind, MOST_BYTES, write_head};
 use std::io;
 use std::io::{ErrorKind, Read, Write};
 
-// An input that ends is no fault.
-fn why(e: io::Error) -> Lost {
-    if e.kind() == ErrorKind::UnexpectedEof {
-        Lost::Ended
-    } else {
-        Lost::Broken(Fault::Input)
-    }
+// Fills the part. An input that ends is no fault.
+fn fill<R: Read>(input: &mut R, part: &mut [u8]) -> Result<(), Lost>
+    ensures { length part.new ≡ length part.old }
+{
+    input.read_exact(part).map_err(|e| {
+        if e.kind() == ErrorKind::UnexpectedEof {
+            Lost::Ended
+        } else {
+            Lost::Broken(Fault::Input)
+        }
+    })
 }
 
 fn next_byte<R: Read>(input: &mut R) -> Result<u8, Lost> {
     let mut one = [0u8; 1];
-    match input.read_exact(&mut one) {
-        Ok(()) => Ok(one[0]),
-        Err(e) => Err(why(e)),
-    }
+    fill(input, &mut one)?;
+    Ok(one[0])
 }
 
 // The bytes up to a newline and with it: byte by byte, so that nothing behind it is taken.
 pub(crate) fn read_line<R: Read>(input: &mut R, line: &mut [u8]) -> Result<usize, Lost>
     ensures { Within result (length line.new) }
 {
-    for n in 0..line.len() {
-        let b = next_byte(input)?;
-        line[n] = b;
-        if b == b'\n' {
+    // n bytes are before this one
+    for (n, place) in line.iter_mut().enumerate() {
+        *place = next_byte(input)?;
+        if *place == b'\n' {
             return Ok(n + 1);
         }
     }
@@ -43,10 +45,7 @@ fn skip_part<R: Read>(input: &mut R, n: usize) -> Result<(), Lost>
     requires { n ≤ 1024 }
 {
     let mut part = [0u8; 1024];
-    match input.read_exact(&mut part[0..n]) {
-        Ok(()) => Ok(()),
-        Err(e) => Err(why(e)),
-    }
+    fill(input, &mut part[..n])
 }
 
 // Passes over so many bytes, in parts.
@@ -69,10 +68,8 @@ pub(crate) fn read_bytes<R: Read>(
         skip(input, count)?;
         return Ok(None);
     }
-    match input.read_exact(&mut room[0..count]) {
-        Ok(()) => Ok(Some(count)),
-        Err(e) => Err(why(e)),
-    }
+    fill(input, &mut room[..count])?;
+    Ok(Some(count))
 }
 
 fn put_frame<W: Write>(output: &mut W, head: &[u8], bytes: &[u8]) -> io::Result<()> {
@@ -93,11 +90,6 @@ pub(crate) fn write_frame<W: Write>(
     }
     let len = bytes.len() as u32;
     let mut line = [0u8; HEAD_ROOM];
-    let Some(n) = write_head(&mut line, Head { kind, site, len }) else {
-        return Err(Lost::Broken(Fault::Output));
-    };
-    match put_frame(output, &line[0..n], bytes) {
-        Ok(()) => Ok(()),
-        Err(_) => Err(Lost::Broken(Fault::Output)),
-    }
+    let n = write_head(&mut line, Head { kind, site, len }).ok_or(Lost::Broken(Fault::Output))?;
+    put_frame(output, &line[..n], bytes).map_err(|_| Lost::Broken(Fault::Output))
 }

@@ -1,7 +1,8 @@
 -- Lists that are gone through by place.
-use Rattle.std.proofs.Common.{◌≡◌, ℕ, zero, suc, ◌+◌, ◌<◌, Bool, true, ltb, List, [], ◌∷◌, ◌++◌, map, length, take, Some, sym, ap, ◌∙◌, add-one, arith, length-take-le}
+use Rattle.std.proofs.Common.{◌≡◌, ℕ, zero, suc, ◌+◌, ◌<◌, Bool, true, ltb, List, [], ◌∷◌, ◌++◌, map, length, get_or, take, Some, sym, ap, ◌∙◌, add-one, arith, length-take-le}
 use lib.ListN.{length-map}
 use Rattle.std.specs.List.{slice_get}
+use Rattle.std.proofs.lemmas.Option.{slice_get-get_or}
 use Rattle.std.proofs.lemmas.Bool.{and_parts, and_from, lt-ltb, cond-true}
 use Rattle.octets.proofs.Options.{none-some, some_same}
 use Rattle.settings.proofs.Places.{nth-within}
@@ -24,6 +25,10 @@ take-suc g (y ∷ xs) (suc i) x e = ap (λ z. g y ∷ z) (take-suc g xs i x e)
 -- One more is taken.
 pub take_next : {A B : Type 0} (g : A → B) (xs : List A) (i : ℕ) (x : A) → slice_get xs i ≡ Some x → take (i + 1) (map g xs) ≡ take i (map g xs) ++ (g x ∷ [])
 take_next g xs i x e = ap (λ n. take n (map g xs)) (add-one i) ∙ take-suc g xs i x e
+
+-- What stands at a place of a slice.
+pub stands : {A : Type 0} (zs xs : List A) → zs ≡ xs → (i : ℕ) (d : A) → i < length zs → slice_get xs i ≡ Some (get_or zs i d)
+stands zs xs e i d w = ap (λ l. slice_get l i) (sym e) ∙ slice_get-get_or zs i d w
 
 -- One site more is in the table.
 pub sites-more : {A : Type 0} (g : A → Bytes × ℕ) (xs : List A) (i : ℕ) (x : A) → AllSites (map g xs) → slice_get xs i ≡ Some x → added (g x) (take i (map g xs)) ≡ take (i + 1) (map g xs)

@@ -1,5 +1,6 @@
 -- What an agenda stands for.
-use Rattle.std.specs.Prelude.{◌≡◌, ℕ, ◌-◌, List, [], ◌∷◌, ◌++◌, map, drop, Some, None, vec_items, Option}
+use Rattle.std.specs.Prelude.{◌≡◌, ℕ, ◌-◌, List, [], ◌∷◌, ◌++◌, map, Some, None, Option}
+use Rattle.std.specs.Vec.Iter.{into_iter_items}
 use Rattle.bounded.specs.Numbers.{number_of}
 use Rattle.bounded.specs.Texts.{text_of}
 use Rattle.settings.specs.declared.lines.TurnLine.{TurnLine}
@@ -31,8 +32,8 @@ lines_of a = begun_line a.rounds ++ map line_of (turns_of (lines a.turns.text.no
 -- The windows that are left to open, and those that have yet to have their turn in this round.
 abbrev pub agenda_of : Agenda → runs.Agenda
 agenda_of a = record {
-  opens = drop a.opened (map to_open (vec_items a.opens));
-  round = runs.count_from a.next (a.end - a.next);
+  opens = map to_open (into_iter_items a.opens);
+  round = runs.count_from a.round.start (a.round.end - a.round.start);
   lines = lines_of a;
 }
 

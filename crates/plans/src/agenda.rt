@@ -1,5 +1,6 @@
 // What is still to be done: windows to open, turns of the round that has begun, lines of turns.
-ghost use Rattle.std.specs.Prelude.{◌≡◌, ◌<◌, ◌≤◌, [], ◌∷◌, None, vec_len};
+ghost use Rattle.std.specs.Prelude.{◌≡◌, ◌≤◌, [], None};
+ghost use Rattle.std.specs.Vec.Iter.{into_iter_items};
 ghost use Rattle.std.specs.Option.{option_map};
 ghost use Rattle.book.specs.Records.{event_of};
 ghost use Rattle.pages.specs.Runs.{due, line_due};
@@ -10,6 +11,9 @@ use bounded::site::SiteNumber;
 use bounded::text::Text;
 use settings::Turns;
 use settings::lines::TurnLine;
+use std::alloc::Global;
+use std::ops::Range;
+use std::vec;
 
 // A window that the settings open.
 #[derive(Clone, Copy)]
@@ -18,14 +22,12 @@ pub struct Opening {
     pub path: Text<255>,
 }
 
-// `opened` windows are open already; those from `next` to `end` have yet to have their turn in this round; so many
-// `rounds` are left of the line that has begun, if one has.
+// Windows are still to be opened; those of the `round` have yet to have their turn in it; so many `rounds` are left of the
+// line that has begun, if one has.
 #[derive(Drop)]
 pub struct Agenda<'a> {
-    pub(crate) opens: Vec<Opening>,
-    pub(crate) opened: usize,
-    pub(crate) next: u32,
-    pub(crate) end: u32,
+    pub(crate) opens: vec::IntoIter<Opening, Global>,
+    pub(crate) round: Range<u32>,
     pub(crate) rounds: Option<u32>,
     pub(crate) turns: Turns<'a>,
 }
@@ -35,7 +37,7 @@ impl<'a> Agenda<'a> {
     fn take_line(&mut self) -> Option<TurnLine>
         ensures begun { self.new.rounds ≡ None }
         ensures line { Takes result (lines_of self.old) (lines_of self.new) }
-        ensures rest { (self.new.opens ≡ self.old.opens) × ((self.new.opened ≡ self.old.opened) × ((self.new.next ≡ self.old.next) × (self.new.end ≡ self.old.end))) }
+        ensures rest { (self.new.opens ≡ self.old.opens) × (self.new.round ≡ self.old.round) }
     {
         match self.rounds {
             Some(n) => {
@@ -48,8 +50,8 @@ impl<'a> Agenda<'a> {
 
     // The first turn of the lines, where there are so many windows. A round of no windows is over at once.
     fn next_line(&mut self, windows: u32) -> Option<Event>
-        requires opened { vec_len self.old.opens ≤ self.old.opened }
-        requires round { self.old.end ≤ self.old.next }
+        requires opened { into_iter_items self.old.opens ≡ [] }
+        requires round { self.old.round.end ≤ self.old.round.start }
         ensures event { option_map event_of result ≡ event_in (line_due windows (lines_of self.old)) }
         ensures rest { agenda_of self.new ≡ rest_of (line_due windows (lines_of self.old)) }
     {
@@ -59,8 +61,7 @@ impl<'a> Agenda<'a> {
                 TurnLine::Rounds(n) => {
                     if n > 0 && windows > 0 {
                         self.rounds = Some(n - 1);
-                        self.next = 1;
-                        self.end = windows;
+                        self.round = 1..windows;
                         return Some(Event::Turn { window: 0 });
                     }
                 }
@@ -74,14 +75,10 @@ impl<'a> Agenda<'a> {
         ensures event { option_map event_of result ≡ event_in (due windows (agenda_of self.old)) }
         ensures rest { agenda_of self.new ≡ rest_of (due windows (agenda_of self.old)) }
     {
-        if self.opened < self.opens.len() {
-            let Opening { site, path } = self.opens[self.opened];
-            self.opened += 1;
+        if let Some(Opening { site, path }) = self.opens.next() {
             return Some(Event::Opening { site, path });
         }
-        if self.next < self.end {
-            let window = self.next;
-            self.next += 1;
+        if let Some(window) = self.round.next() {
             return Some(Event::Turn { window });
         }
         self.next_line(windows)

@@ -1,4 +1,6 @@
 // Settings, read to their end, as a plan by value.
+ghost use Rattle.std.specs.Prelude.{◌≡◌};
+ghost use Rattle.plans.specs.declared.plan.Unplanned.TheVariants.{Refused, NoMemory};
 ghost use Rattle.plans.specs.Reading.{PlanRead};
 ghost use Rattle.settings.specs.Settings.{read_settings};
 
@@ -22,24 +24,32 @@ pub enum Unplanned {
     NoMemory(AllocError),
 }
 
+impl From<Refusal> for Unplanned {
+    ghost from_gives = { λ r e. e ≡ Refused r };
+
+    fn from(refusal: Refusal) -> Unplanned {
+        Unplanned::Refused(refusal)
+    }
+}
+
+impl From<AllocError> for Unplanned {
+    ghost from_gives = { λ a e. e ≡ NoMemory a };
+
+    fn from(e: AllocError) -> Unplanned {
+        Unplanned::NoMemory(e)
+    }
+}
+
 impl<'a> Plan<'a> {
     // Reads settings to their end or to the first fault.
     pub fn read(heap: Global, text: &'a [u8]) -> Result<Plan<'a>, Unplanned>
         ensures { PlanRead (read_settings text.now) result }
     {
-        let settings = match read_settings(text) {
-            Ok(settings) => settings,
-            Err(refusal) => return Err(Unplanned::Refused(refusal)),
-        };
-        let opens = match openings(heap, &settings.opens) {
-            Ok(opens) => opens,
-            Err(e) => return Err(Unplanned::NoMemory(e)),
-        };
+        let settings = read_settings(text)?;
+        let opens = openings(heap, &settings.opens)?;
         let agenda = Agenda {
-            opens,
-            opened: 0,
-            next: 0,
-            end: 0,
+            opens: opens.into_iter(),
+            round: 0..0,
             rounds: None,
             turns: settings.turns,
         };

@@ -13,7 +13,8 @@ use Rattle.addresses.specs.Written.{port_text, site_text}
 use Rattle.addresses.proofs.Back.{host_names, address_back}
 use Rattle.settings.specs.declared.lines.TurnLine.{TurnLine}
 use Rattle.settings.specs.declared.lines.TurnLine.TheVariants.{Window, Rounds}
-use Rattle.settings.specs.Lines.{lines, unpadded, count, address_in, site_from, open_from, head_line, rounds_from, turn_from, turn_line}
+use Rattle.words.specs.Numerals.{unpadded}
+use Rattle.settings.specs.Lines.{lines, count, address_in, site_from, open_from, head_line, rounds_from, turn_from, turn_line}
 use Rattle.settings.specs.Settings.{Config, Good, Bad, place, named, added, few, turn_then, turns_from, with_turns, head_then, lines_from, no_settings, read_settings}
 use Rattle.settings.specs.Written.{site_line, open_text, open_line, turn_text, lines_of, ended, settings_text, SettingsReadBack}
 use Rattle.settings.proofs.Places.{nth-within}

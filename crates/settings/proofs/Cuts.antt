@@ -72,6 +72,9 @@ module _ {A : Type 0} (read : List ℕ → Option A) where
       let c = line_some s p.0 p.1 h.1 in
       (p.0, c.0 ∙ ap (λ q. Some p.0 ∷ lines q.1) same, k.1 ∙ ap (λ q. Some q.0) same, omega (arith, c.1, ap (λ q. length q.1) same))
 
+  pub next-shorter : (s t : List ℕ) (x : A) → Some (x, t) ≡ next_by read s → length t < length s
+  next-shorter s t x e = (next-some s t x (sym e)).3
+
   -- a first line that it can't read
   pub next-none : (s : List ℕ) → 0 < length s → next_by read s ≡ None → (l : Option (List ℕ)) × (ls : List (Option (List ℕ))) × (lines s ≡ l ∷ ls) × (and_then l read ≡ None)
   next-none [] h e = absurd (omega arith)

@@ -13,7 +13,8 @@ use Rattle.addresses.specs.Address.{labels, path_ok, read_address}
 use Rattle.addresses.proofs.Back.{address_known}
 use Rattle.settings.specs.declared.lines.TurnLine.{TurnLine}
 use Rattle.settings.specs.declared.lines.TurnLine.TheVariants.{Window, Rounds}
-use Rattle.settings.specs.Lines.{count, unpadded, address_in, site_from, open_from, head_line, rounds_from, turn_from, turn_line}
+use Rattle.words.specs.Numerals.{unpadded}
+use Rattle.settings.specs.Lines.{count, address_in, site_from, open_from, head_line, rounds_from, turn_from, turn_line}
 use Rattle.settings.specs.Settings.{Config, Outcome, Good, Bad, same_site, place, named, opened, added, few, turn_then, turns_from, with_turns, head_then, lines_from}
 use Rattle.settings.proofs.Places.{same_decides, nth-within, place-within}
 

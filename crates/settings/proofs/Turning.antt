@@ -1,6 +1,5 @@
 -- Lines of turns, one after another. Assumes nothing.
 use Rattle.std.proofs.Common.{◌≡◌, ℕ, ◌+◌, ◌<◌, List, [], ◌∷◌, length, Some, None, Option, sym, refl, ap, ◌∙◌, arith}
-use Rattle.std.proofs.lemmas.List.{nil_from_length}
 use Rattle.settings.specs.declared.lines.TurnLine.{TurnLine}
 use Rattle.settings.specs.Lines.{lines, turn_line, next_by}
 use Rattle.settings.specs.Settings.{Good, Bad, turn_then, turns_from, turn_and, turns_of}
@@ -10,9 +9,6 @@ use Rattle.settings.proofs.Cuts.{next-some, next-none}
 pub record GoesOn (j : ℕ) (ms : List (Option (List ℕ))) (k : ℕ) (ls : List (Option (List ℕ))) : Type 0 where
   pub good : turns_from k ls ≡ Good (turns_of ls) → turns_from j ms ≡ Good (turns_of ms)
   pub bad : (n l : ℕ) → turns_from k ls ≡ Bad n l → turns_from j ms ≡ Bad n l
-
-pub goes_on_here : (k : ℕ) (ls : List (Option (List ℕ))) → GoesOn k ls k ls
-goes_on_here k ls = record { good = λ e. e; bad = λ n l e. e }
 
 -- the turns at the front of a text
 pub turns-some : (s t : List ℕ) (x : TurnLine) → next_by turn_line s ≡ Some (x, t) → turns_of (lines s) ≡ x ∷ turns_of (lines t)
@@ -36,9 +32,6 @@ goes_on j k ms s t x e g =
 
 -- the first line is no line of turns, or there is none
 module _ (j k : ℕ) (ms : List (Option (List ℕ))) (s : List ℕ) (e : next_by turn_line s ≡ None) (g : GoesOn j ms k (lines s)) where
-  pub turns_good : length s ≡ 0 → turns_from j ms ≡ Good (turns_of ms)
-  turns_good h = let z : s ≡ [] = nil_from_length s h in g.good ((λ i. turns_from k (lines (z i))) ∙ sym (λ i. Good (turns_of (lines (z i)))))
-
   pub turns_bad : 0 < length s → turns_from j ms ≡ Bad 1 k
   turns_bad h =
       let t = next-none turn_line s h e in

@@ -1,11 +1,11 @@
 -- The lines of settings, one by one. Assumes nothing.
-use Rattle.std.specs.Prelude.{ℕ, Bool, true, false, cond, not, ◌||◌, List, [], ◌∷◌, length, Some, None, codes, Option, ◌==◌}
+use Rattle.std.specs.Prelude.{ℕ, Bool, true, false, cond, List, [], ◌∷◌, length, Some, None, codes, Option, ◌==◌}
 use Rattle.octets.specs.declared.Class.TheVariants.{Digit, Line}
 use Rattle.octets.specs.Answers.{Answer, Read, Fault}
 use Rattle.octets.specs.Classes.{has}
 use Rattle.octets.specs.Fronts.{and_then, after, front, past}
-use Rattle.octets.specs.Numbers.{number}
 use Rattle.addresses.specs.Address.{read_address}
+use Rattle.words.specs.Numerals.{numeral}
 use Rattle.settings.specs.declared.lines.TurnLine.{TurnLine}
 use Rattle.settings.specs.declared.lines.TurnLine.TheVariants.{Window, Rounds}
 
@@ -20,14 +20,9 @@ abbrev pub lines : List ℕ → List (Option (List ℕ))
 lines [] = []
 lines (b ∷ bs) = cond (b == 10) (Some [] ∷ lines bs) (grown b (lines bs))
 
--- some digits, and no zero before others
-abbrev pub unpadded : List ℕ → Bool
-unpadded [] = false
-unpadded (d ∷ ds) = not (d == 48) || length ds == 0
-
 -- a number of 1 to 9 digits
 abbrev pub count : List ℕ → Option ℕ
-count ds = cond (unpadded ds) (number 999999999 0 ds) None
+count ds = numeral 999999999 ds
 
 -- an address: its host, its port and its path
 abbrev pub address_in : Answer (List ℕ × ℕ × List ℕ) → Option (List ℕ × ℕ × List ℕ)

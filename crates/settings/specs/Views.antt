@@ -2,7 +2,7 @@
 use Rattle.std.specs.Prelude.{ℕ, List, map, Ok, Err, Result}
 use Rattle.addresses.specs.declared.Site.{Site}
 use Rattle.addresses.specs.Views.{site_of}
-use Rattle.settings.specs.declared.table.Table.{Table}
+use Rattle.bounded.specs.declared.fixed.FixedVec.{FixedVec}
 use Rattle.settings.specs.declared.lines.TurnLine.{TurnLine}
 use Rattle.settings.specs.declared.Open.{Open}
 use Rattle.settings.specs.declared.Settings.{Settings}
@@ -10,7 +10,7 @@ use Rattle.settings.specs.declared.Fault.{Fault}
 use Rattle.settings.specs.declared.Fault.TheVariants.{Unreadable, TooMany}
 use Rattle.settings.specs.declared.Refusal.{Refusal}
 use Rattle.settings.specs.Lines.{lines}
-use Rattle.settings.specs.Tables.{items_of}
+use Rattle.bounded.specs.Fixed.{items_of}
 use Rattle.settings.specs.Settings.{Config, Outcome, Good, Bad, turns_of}
 
 -- the number of a fault
@@ -19,14 +19,14 @@ fault_number Unreadable = 1
 fault_number TooMany = 2
 
 -- sites by their numbers
-abbrev pub sites_in : Table Site → List (List ℕ × ℕ)
+abbrev pub sites_in : FixedVec Site 16 → List (List ℕ × ℕ)
 sites_in t = map site_of (items_of t)
 
 abbrev pub open_of : Open → ℕ × List ℕ
 open_of o = (o.site, o.path.now)
 
 -- windows in their order
-abbrev pub opens_in : Table Open → List (ℕ × List ℕ)
+abbrev pub opens_in : FixedVec Open 16 → List (ℕ × List ℕ)
 opens_in t = map open_of (items_of t)
 
 abbrev pub settings_of : Settings → Config

@@ -8,8 +8,8 @@ ghost use Rattle.settings.specs.Lines.{count, head_line, rounds_from, turn_line,
 ghost use Rattle.settings.specs.Heads.{head_of};
 
 use addresses::{Address, read_address};
-use octets::decimal::read_number;
 use octets::{Class, split, strip};
+use words::numbers::read_numeral;
 
 // A line of turns, not expanded.
 #[derive(Clone, Copy)]
@@ -20,61 +20,41 @@ pub enum TurnLine {
     Rounds(u32),
 }
 
-// A line that names a site, and whether it opens a window.
+// A line that names a site.
 #[derive(Clone, Copy)]
-pub(crate) struct Head<'a> {
-    pub(crate) opens: bool,
-    pub(crate) address: Address<'a>,
+pub(crate) enum Head<'a> {
+    // `site address`
+    Site(Address<'a>),
+    // `open address`: it opens a window too
+    Open(Address<'a>),
 }
 
 // A number of 1 to 9 digits without leading zeros.
 fn read_count(s: &[u8]) -> Option<u32>
     ensures { result ≡ count s.now }
 {
-    if s.is_empty() || s[0] == b'0' && s.len() != 1 {
-        return None;
-    }
-    read_number(s, 999_999_999)
+    let n = read_numeral(s, 999_999_999)?;
+    Some(n as u32)
 }
 
 pub(crate) fn read_head(line: &[u8]) -> Option<Head<'_>>
     ensures { option_map head_of result ≡ head_line line.now }
 {
     if let Some(t) = strip(line, b"open ") {
-        let Ok(address) = read_address(t) else {
-            return None;
-        };
-        return Some(Head {
-            opens: true,
-            address,
-        });
+        return Some(Head::Open(read_address(t).ok()?));
     }
-    let Some(t) = strip(line, b"site ") else {
-        return None;
-    };
-    let Ok(address) = read_address(t) else {
-        return None;
-    };
-    Some(Head {
-        opens: false,
-        address,
-    })
+    let t = strip(line, b"site ")?;
+    Some(Head::Site(read_address(t).ok()?))
 }
 
 fn read_rounds(line: &[u8]) -> Option<TurnLine>
     ensures { result ≡ rounds_from (front (has Digit) line.now) (after (codes " times all") (past (has Digit) line.now)) }
 {
     let (digits, end) = split(Class::Digit, line);
-    let Some(rest) = strip(end, b" times all") else {
-        return None;
-    };
-    if !rest.is_empty() {
+    if !strip(end, b" times all")?.is_empty() {
         return None;
     }
-    let Some(n) = read_count(digits) else {
-        return None;
-    };
-    Some(TurnLine::Rounds(n))
+    Some(TurnLine::Rounds(read_count(digits)?))
 }
 
 pub(crate) fn read_turn(line: &[u8]) -> Option<TurnLine>
@@ -83,10 +63,7 @@ pub(crate) fn read_turn(line: &[u8]) -> Option<TurnLine>
     let Some(digits) = strip(line, b"turn ") else {
         return read_rounds(line);
     };
-    let Some(n) = read_count(digits) else {
-        return None;
-    };
-    Some(TurnLine::Window(n))
+    Some(TurnLine::Window(read_count(digits)?))
 }
 
 // The first line, and what follows its newline.
@@ -94,34 +71,21 @@ fn line_then(s: &[u8]) -> Option<(&[u8], &[u8])>
     ensures { option_map (λ p. (p.0.now, p.1.now)) result ≡ line_then s.now }
 {
     let (line, end) = split(Class::Line, s);
-    let Some(rest) = strip(end, b"\n") else {
-        return None;
-    };
-    Some((line, rest))
+    Some((line, strip(end, b"\n")?))
 }
 
 // The first line, if it names a site, and what follows it.
 pub(crate) fn next_head(s: &[u8]) -> Option<(Head<'_>, &[u8])>
     ensures { option_map (λ p. (head_of p.0, p.1.now)) result ≡ next_by head_line s.now }
 {
-    let Some((line, rest)) = line_then(s) else {
-        return None;
-    };
-    let Some(head) = read_head(line) else {
-        return None;
-    };
-    Some((head, rest))
+    let (line, rest) = line_then(s)?;
+    Some((read_head(line)?, rest))
 }
 
 // The first line, if it is one of turns, and what follows it.
 pub(crate) fn next_turn(s: &[u8]) -> Option<(TurnLine, &[u8])>
     ensures { option_map (λ p. (p.0, p.1.now)) result ≡ next_by turn_line s.now }
 {
-    let Some((line, rest)) = line_then(s) else {
-        return None;
-    };
-    let Some(turn) = read_turn(line) else {
-        return None;
-    };
-    Some((turn, rest))
+    let (line, rest) = line_then(s)?;
+    Some((read_turn(line)?, rest))
 }

@@ -8,6 +8,7 @@ ghost use Rattle.words.specs.Hex.{hex_digit, hex_of, is_hex, hex_value, AllBytes
 use bounded::text::Text;
 use octets::strip;
 
+// By hand: `char::from_digit` gives a char, of which a byte would have to be made.
 fn digit(n: u8) -> u8
     requires { n < 16 }
     ensures { result ≡ hex_digit n }
@@ -24,7 +25,7 @@ fn pair_of(b: u8) -> [u8; 2]
 fn is_hex(d: u8) -> bool
     ensures { result ≡ is_hex d }
 {
-    d >= b'0' && d <= b'9' || d >= b'a' && d <= b'f'
+    matches!(d, b'0'..=b'9' | b'a'..=b'f')
 }
 
 fn value_of(d: u8) -> u8
@@ -53,21 +54,12 @@ fn pair_then(s: &[u8]) -> Option<(u8, &[u8])>
 fn bytes_then<const N: usize>(s: &[u8]) -> Option<(Text<N>, &[u8])>
     ensures { option_map (λ p. (text_of p.0, p.1.now)) result ≡ hex_within N s.now }
 {
-    let mut bytes = [0; N];
-    let mut len = 0;
+    let mut text = Text::empty();
     let mut rest = s;
     while let Some((b, next)) = pair_then(rest) {
-        if len >= N {
-            return None;
-        }
-        bytes[len] = b;
-        len += 1;
+        text.push(b)?;
         rest = next;
     }
-    let room = &bytes[..];
-    let Some(text) = Text::new(&room[0..len]) else {
-        return None;
-    };
     Some((text, rest))
 }
 
@@ -78,10 +70,7 @@ pub(crate) fn bytes_after<'a, const N: usize>(
 ) -> Option<(Text<N>, &'a [u8])>
     ensures { option_map (λ p. (text_of p.0, p.1.now)) result ≡ bytes_after word.now N s.now }
 {
-    let Some(t) = strip(s, word) else {
-        return None;
-    };
-    bytes_then(t)
+    bytes_then(strip(s, word)?)
 }
 
 // Writes a text and bytes in hex from a place on, if both fit, and gives the place after them; else nothing.
@@ -90,12 +79,12 @@ pub fn put_bytes(out: &mut [u8], from: usize, word: &[u8], bytes: &[u8]) -> Opti
     ensures after { out.new ≡ written_from from (word.now ++ hex_of bytes.now) out.old }
     ensures bytes { AllBytes bytes.now }
 {
-    let Some(room) = out.len().checked_sub(from) else {
-        return None;
-    };
+    let room = out.len().checked_sub(from)?;
     if word.len() > room || bytes.len() > (room - word.len()) / 2 {
         return None;
     }
+    // By place, two digits for each byte: of a slice that `chunks_exact_mut` lends piece by piece, a proof knows no more
+    // than the length.
     let mut at = from + word.len();
     out[from..at].copy_from_slice(word);
     for b in bytes {

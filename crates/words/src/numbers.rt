@@ -2,42 +2,22 @@
 ghost use Rattle.std.specs.Prelude.{◌≡◌, ◌≤◌, ◌++◌, IfSome, decimal};
 ghost use Rattle.std.specs.Option.{option_map};
 ghost use Rattle.octets.specs.Buffers.{written_from, count_from};
-ghost use Rattle.octets.specs.Numbers.{number};
 ghost use Rattle.words.specs.Numerals.{numeral, number_after};
 
+use octets::decimal::read_number;
 use octets::pieces::put_from;
 use octets::small::SmallText;
-use octets::{Class, is_of, split, strip};
+use octets::{Class, split, strip};
 
-// The number that digits write, if it is at most max; no digits write 0.
-fn value_of(s: &[u8], max: u64) -> Option<u64>
-    ensures is { result ≡ number max 0 s.now }
-    ensures within { IfSome result (λ n. n ≤ max) }
-{
-    let mut n: u64 = 0;
-    for b in s {
-        let d = *b;
-        if !is_of(Class::Digit, d) {
-            return None;
-        }
-        let m = n as u128 * 10 + (d as u128 - 48);
-        if m > max as u128 {
-            return None;
-        }
-        n = m as u64;
-    }
-    Some(n)
-}
-
-// A number as it is written: some digits, and no zero before others.
-fn read_numeral(s: &[u8], max: u64) -> Option<u64>
+// A number as it is written, if it is at most max: some digits, and no zero before others.
+pub fn read_numeral(s: &[u8], max: u64) -> Option<u64>
     ensures is { result ≡ numeral max s.now }
     ensures within { IfSome result (λ n. n ≤ max) }
 {
-    if s.is_empty() || s[0] == b'0' && s.len() != 1 {
+    if s.is_empty() || s[0] == b'0' && s.len() > 1 {
         return None;
     }
-    value_of(s, max)
+    read_number(s, max)
 }
 
 // The number behind a text, if it is at most max, and what follows it.
@@ -45,16 +25,13 @@ pub fn number_after<'a>(s: &'a [u8], word: &[u8], max: u64) -> Option<(u64, &'a 
     ensures is { option_map (λ p. (p.0, p.1.now)) result ≡ number_after word.now max s.now }
     ensures within { IfSome result (λ p. p.0 ≤ max) }
 {
-    let Some(t) = strip(s, word) else {
-        return None;
-    };
-    let (digits, rest) = split(Class::Digit, t);
-    let Some(n) = read_numeral(digits, max) else {
-        return None;
-    };
+    let (digits, rest) = split(Class::Digit, strip(s, word)?);
+    let n = read_numeral(digits, max)?;
     Some((n, rest))
 }
 
+// By name, since a list of pieces has one lifetime for all. Buffer and place are passed on by themselves, as in all that
+// writes: of a struct that lends the buffer, nothing is known of its bytes once it is let go.
 fn put_both<'a>(out: &mut [u8], from: usize, word: &'a [u8], digits: &'a [u8]) -> Option<usize>
     ensures answer { result ≡ count_from from (word.now ++ digits.now) out.old }
     ensures after { out.new ≡ written_from from (word.now ++ digits.now) out.old }

@@ -37,9 +37,7 @@ impl<'a> Scanner<'a> {
         ensures stays { IfNone result (self.new.rest.now ≡ self.old.rest.now) }
         ensures within { IfSome result (λ n. n ≤ max) }
     {
-        let Some((n, rest)) = number_after(self.rest, word, max) else {
-            return None;
-        };
+        let (n, rest) = number_after(self.rest, word, max)?;
         self.rest = rest;
         Some(n)
     }
@@ -49,6 +47,7 @@ impl<'a> Scanner<'a> {
         ensures is { with (option_map text_of result) self.new.rest.now ≡ bytes_after word.now N self.old.rest.now }
         ensures stays { IfNone result (self.new.rest.now ≡ self.old.rest.now) }
     {
+        // No `?`: beside a slice, a text in what it passes on gets no proof.
         let Some((text, rest)) = bytes_after(self.rest, word) else {
             return None;
         };

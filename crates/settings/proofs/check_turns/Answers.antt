@@ -1,35 +1,21 @@
 use Rattle.std.proofs.Common.{◌≡◌, ℕ, ◌+◌, ◌<◌, false, eqb, List, length, sym, arith}
-use Rattle.std.proofs.lemmas.Bool.{eqb-true, eqb-false}
+use Rattle.std.proofs.lemmas.Bool.{eqb-false}
 use Rattle.settings.specs.Lines.{lines, turn_line}
-use Rattle.settings.proofs.Cuts.{next-some}
-use Rattle.settings.proofs.Turning.{goes_on_here, goes_on, turns_good, turns_bad}
+use Rattle.settings.proofs.Cuts.{next-shorter}
+use Rattle.settings.proofs.Turning.{goes_on, turns_bad}
 use Rattle.settings.proofs.check_turns.Goals as goal
 
 some : (s : List ℕ) → eqb (length s) 0 ≡ false → 0 < length s
 some s e = let h = eqb-false (length s) 0 e in omega arith
 
-shorter : (c : goal.In-Some) → length c.in-Some.next.now < length c.loop-next.rest.now
-shorter c = (next-some turn_line c.loop-next.rest.now c.in-Some.next.now c.in-Some.field-0-0 (sym c.in-Some.ensures)).3
-
-pub overflow_add-line : goal.overflow_add-line
-overflow_add-line c = omega (arith, shorter c, c.loop-next.invariant.1, c.requires)
-
-pub loop-next-init : goal.loop-next-init
-loop-next-init c = (goes_on_here (c.args.before + 1) (lines c.args.text.now), omega arith)
-
 pub loop-next-smaller : goal.loop-next-smaller
-loop-next-smaller c = shorter c
+loop-next-smaller c = next-shorter turn_line c.loop-next.rest.now c.in-Some.next.now c.in-Some.field-0-0 c.in-Some.ensures
 
 pub loop-next-preserved : goal.loop-next-preserved
 loop-next-preserved c = (
   goes_on (c.args.before + 1) (c.loop-next.line + 1) (lines c.args.text.now) c.loop-next.rest.now c.in-Some.next.now c.in-Some.field-0-0 (sym c.in-Some.ensures) c.loop-next.invariant.0,
-  omega (arith, shorter c, c.loop-next.invariant.1),
+  omega (arith, next-shorter turn_line c.loop-next.rest.now c.in-Some.next.now c.in-Some.field-0-0 c.in-Some.ensures, c.loop-next.invariant.1),
 )
-
-pub returns-then-is_empty : goal.returns-then-is_empty
-returns-then-is_empty c =
-    sym (turns_good (c.args.before + 1) (c.loop-next.line + 1) (lines c.args.text.now) c.loop-next.rest.now (sym c.in_default.ensures) c.loop-next.invariant.0
-    (eqb-true (length c.loop-next.rest.now) 0 (sym c.if-is_empty.ensures)))
 
 pub returns : goal.returns
 returns c =

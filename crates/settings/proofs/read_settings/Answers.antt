@@ -1,37 +1,38 @@
-use Rattle.std.proofs.Common.{◌+◌, ◌<◌, length, sym, ap, ◌∙◌, arith}
+use Rattle.std.proofs.Common.{◌≡◌, ◌+◌, Err, Result, sym, ap, ◌∙◌, arith}
 use Rattle.std.proofs.lemmas.Result.{err_from_is_err_and}
 use Rattle.settings.specs.Heads.{head_of}
 use Rattle.settings.specs.Lines.{lines, head_line}
 use Rattle.settings.specs.Settings.{Bad, lines_from, with_turns}
 use Rattle.settings.specs.Views.{fault_number, settings_of, outcome_of}
-use Rattle.settings.proofs.Cuts.{next-some}
+use Rattle.settings.proofs.Cuts.{next-shorter}
 use Rattle.settings.proofs.Naming.{names_one, names_many, turns-begin}
 use Rattle.settings.proofs.read_settings.Goals as goal
 
-shorter : (c : goal.Else-not-add) → length c.in-Some.next.now < length c.loop-head.rest.now
-shorter c = (next-some head_line c.loop-head.rest.now c.in-Some.next.now (head_of c.in-Some.head) (sym c.in-Some.ensures)).3
+err_same : {A E : Type 0} (x y : E) → ◌≡◌ {A = Result A E} (Err x) (Err y) → x ≡ y
+err_same x y e = cc
 
-pub returns-then-not-add : goal.returns-then-not-add
-returns-then-not-add c =
-    sym (c.loop-head.invariant.0 ∙ names_many (settings_of c.loop-head.settings) (c.loop-head.line + 1) c.loop-head.rest.now c.in-Some.next.now (head_of c.in-Some.head) (sym c.in-Some.ensures) (sym c.if-not-add.ensures.is))
+pub returns-in_err-add : goal.returns-in_err-add
+returns-in_err-add c =
+    let p = err_from_is_err_and c.from_residual.result c.from_residual.ensures.1 in
+    ap outcome_of (p.1 ∙ ap Err (p.2 ∙ err_same _ _ c.in_err-add.ensures.full))
+    ∙ sym (c.loop-head.invariant.0 ∙ names_many (settings_of c.loop-head.settings) (c.loop-head.line + 1) c.loop-head.rest.now c.in-Some.next.now (head_of c.in-Some.head) (sym c.in-Some.ensures) (sym c.in_err-add.ensures.is))
 
 pub loop-head-smaller : goal.loop-head-smaller
-loop-head-smaller c = shorter c
+loop-head-smaller c = next-shorter head_line c.loop-head.rest.now c.in-Some.next.now (head_of c.in-Some.head) c.in-Some.ensures
 
 pub loop-head-preserved : goal.loop-head-preserved
 loop-head-preserved c =
-    let now = c.add.ensures.left c.if-not-add.false in (
+    let now = c.in_ok-add.ensures.left in (
       c.loop-head.invariant.0
-          ∙ names_one (settings_of c.loop-head.settings) (c.loop-head.line + 1) c.loop-head.rest.now c.in-Some.next.now (head_of c.in-Some.head) (sym c.in-Some.ensures) (sym c.if-not-add.ensures.is)
+          ∙ names_one (settings_of c.loop-head.settings) (c.loop-head.line + 1) c.loop-head.rest.now c.in-Some.next.now (head_of c.in-Some.head) (sym c.in-Some.ensures) (sym c.in_ok-add.ensures.is)
           ∙ ap (λ d. lines_from d (c.loop-head.line + 1 + 1) (lines c.in-Some.next.now)) (sym now),
       ap (λ d. d.turns) now ∙ c.loop-head.invariant.1,
-      omega (arith, shorter c, c.loop-head.invariant.2),
-      c.add.ensures.sound,
+      omega (arith, next-shorter head_line c.loop-head.rest.now c.in-Some.next.now (head_of c.in-Some.head) c.in-Some.ensures, c.loop-head.invariant.2),
     )
 
 pub returns-in_err-check_turns : goal.returns-in_err-check_turns
 returns-in_err-check_turns c =
-    let p = err_from_is_err_and c.from_residual.result c.from_residual.ensures.1 in
+    let p = err_from_is_err_and c.from_residual-in_err-check_turns.result c.from_residual-in_err-check_turns.ensures.1 in
     let d = settings_of c.loop-head.settings in
     ap outcome_of p.1
     ∙ ap (λ e. Bad (fault_number e.fault) e.line) p.2

@@ -1,16 +1,14 @@
-use Rattle.std.proofs.Common.{◌≡◌, ◌^◌, ◌<◌, ◌++◌, codes, decimal, sym, refl, ap, ◌∙◌, append_assoc, arith, length-append, rules}
+use Rattle.std.proofs.Common.{◌≡◌, ◌++◌, codes, decimal, sym, refl, ap, ◌∙◌, append_assoc}
 use Rattle.std.specs.Option.{option_map}
-use Rattle.std.proofs.ByRecursion.{All-append}
 use Rattle.bounded.specs.Numbers.{number_of}
 use Rattle.browser.specs.Values.{outs_of}
 use Rattle.book.specs.Records.{event_of}
 use Rattle.book.specs.Lines.{event_text, site_text, outs_text}
-use Rattle.book.specs.Ranges.{OutIn}
-use Rattle.book.proofs.Putting.{puts_then, outs-append, one_out}
+use Rattle.book.proofs.Putting.{puts_then, outs-append}
 use Rattle.book.proofs.write.line.Goals as goal
 
-pub returns : goal.returns
-returns c =
+pub returns-clause-puts : goal.returns-clause-puts
+returns-clause-puts c =
     let held = c.args.noted.now in
     let page = outs_of held.page in
     let server = outs_of held.server in
@@ -19,20 +17,9 @@ returns c =
     let F = codes " " ++ decimal held.fault in
     let S = site_text (option_map number_of held.site) in
     let E = event_text (event_of held.event) in
-    let small : held.fault < 2 ^ 8 = search rules in
-    record {
-      puts =
-          puts_then _ _ _ (decimal c.args.n) _ (E ++ (S ++ (F ++ (outs_text (page ++ server) ++ N)))) _ _ _ refl c.number-at.ensures
-          (puts_then _ _ _ E _ (S ++ (F ++ (outs_text (page ++ server) ++ N))) _ _ _ refl c.event-at.ensures.puts
-          (puts_then _ _ _ S _ (F ++ (outs_text (page ++ server) ++ N)) _ _ _ refl c.window-at.ensures.puts
-          (puts_then _ _ _ F _ (outs_text (page ++ server) ++ N) _ _ _ outs c.number-at-2.ensures
-          (puts_then _ _ _ (outs_text page) _ (outs_text server ++ N) _ _ _ refl c.out-at.ensures.puts
-          (puts_then _ _ _ (outs_text server) _ N _ _ _ refl c.out-at-2.ensures.puts c.fixed.ensures)))));
-      range = record {
-        event = c.event-at.ensures.range;
-        site = c.window-at.ensures.range;
-        fault = small;
-        outs = All-append OutIn page server c.out-at.ensures.range c.out-at-2.ensures.range;
-        few = omega (arith, length-append page server, one_out held.page, one_out held.server);
-      };
-    }
+    puts_then _ _ _ (decimal c.args.n) _ (E ++ (S ++ (F ++ (outs_text (page ++ server) ++ N)))) _ _ _ refl c.number-at.ensures
+    (puts_then _ _ _ E _ (S ++ (F ++ (outs_text (page ++ server) ++ N))) _ _ _ refl c.event-at.ensures.puts
+    (puts_then _ _ _ S _ (F ++ (outs_text (page ++ server) ++ N)) _ _ _ refl c.window-at.ensures.puts
+    (puts_then _ _ _ F _ (outs_text (page ++ server) ++ N) _ _ _ outs c.number-at-2.ensures
+    (puts_then _ _ _ (outs_text page) _ (outs_text server ++ N) _ _ _ refl c.out-at.ensures.puts
+    (puts_then _ _ _ (outs_text server) _ N _ _ _ refl c.out-at-2.ensures.puts c.fixed.ensures)))))

@@ -1,26 +1,17 @@
-use Rattle.std.proofs.Common.{◌≡◌, ◌≤◌, length, Some, sym, ap, ◌∙◌, arith}
-use lib.ListN.{length-map}
-use Rattle.std.specs.List.{slice_get}
-use Rattle.std.proofs.lemmas.List.{take_all}
+use Rattle.std.proofs.Common.{◌≡◌, ℕ, ◌+◌, ◌<◌, List, map, length, get_or, take, ap, ◌∙◌}
+use Rattle.addresses.specs.declared.Site.{Site}
 use Rattle.addresses.specs.Views.{site_of}
-use Rattle.settings.specs.Tables.{items_of}
-use Rattle.settings.specs.Views.{sites_in}
-use Rattle.settings.proofs.Places.{nth-none}
+use Rattle.bounded.specs.Fixed.{items_of}
 use Rattle.storage.specs.Tables.{added}
-use Rattle.plans.proofs.Gathering.{sites-more}
+use Rattle.pages.specs.Sites.{Bytes}
+use Rattle.plans.specs.Fits.{AllSites}
+use Rattle.plans.proofs.Gathering.{stands, sites-more}
 use Rattle.plans.proofs.gather.table_of.Goals as goal
 
-pub returns-in_default : goal.returns-in_default
-returns-in_default c = λ h.
-    let l : length (items_of c.args.sites.now) ≤ c.loop-i.i = nth-none (items_of c.args.sites.now) c.loop-i.i c.in_default.ensures.is in
-    let m = length-map (items_of c.args.sites.now) site_of in
-    c.loop-i.invariant h ∙ take_all c.loop-i.i (sites_in c.args.sites.now) (omega arith)
+-- the site at a place is added
+more : (zs xs : List Site) (e : zs ≡ xs) (i : ℕ) (d : Site) (w : i < length zs) (before after : List (Bytes × ℕ)) → AllSites (map site_of xs) → before ≡ take i (map site_of xs) → after ≡ added (site_of (get_or zs i d)) before → after ≡ take (i + 1) (map site_of xs)
+more zs xs e i d w before after all so is = is ∙ ap (added (site_of (get_or zs i d))) so ∙ sites-more site_of xs i (get_or zs i d) all (stands zs xs e i d w)
 
-pub loop-i-preserved : goal.loop-i-preserved
-loop-i-preserved c = λ h.
-    let s = c.in-Some.site in
-    let e : slice_get (items_of c.args.sites.now) c.loop-i.i ≡ Some s = sym c.in-Some.ensures.is in
-    c.add.ensures.after ∙ ap (added (site_of s)) (c.loop-i.invariant h) ∙ sites-more site_of (items_of c.args.sites.now) c.loop-i.i s h e
-
-pub returns : goal.returns
-returns c = λ h. c.loop-i.invariant h ∙ take_all c.loop-i.i (sites_in c.args.sites.now) (omega (arith, h.0))
+pub loop-site-preserved : goal.loop-site-preserved
+loop-site-preserved c = λ h.
+    more c.as_slice-site-items.result.now (items_of c.args.sites.now) c.as_slice-site-items.ensures.is c.loop-site.site-index _ c.loop-site-test.true _ _ h (c.loop-site.invariant h) c.add.ensures.after

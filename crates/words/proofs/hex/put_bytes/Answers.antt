@@ -9,13 +9,6 @@ use Rattle.words.proofs.Hexes.{length_hex, too_long, all-bytes}
 use Rattle.words.proofs.hex.put_bytes.Goals as goal
 use Rattle.words.proofs.hex.put_bytes.Goals.{then-word-room-via-then-word-room, then-word-room-via-else-word-room+then-bytes-room}
 
-pub returns-in_default : goal.returns-in_default
-returns-in_default c =
-    let w = c.args.word.now in
-    let bs = c.args.bytes.now in
-    let no = too_long c.args.from (w ++ hex_of bs) c.args.out.now (omega (arith, c.in_default.ensures)) in
-    record { answer = no.0; after = no.1; bytes = all-bytes bs c.type_inv.bytes }
-
 pub returns-then-word-room : goal.returns-then-word-room
 returns-then-word-room c =
     let w = c.args.word.now in
@@ -23,7 +16,7 @@ returns-then-word-room c =
     let out = c.args.out.now in
     let long = length-append w (hex_of bs) in
     let hex = length_hex bs in
-    let room = c.in-Some.ensures in
+    let room = c.in_ok-room.ensures in
     let h : length out < c.args.from + length (w ++ hex_of bs) =
     elim c.then-word-room.branch [ then-word-room-via-then-word-room x ↦ omega (arith, x.if-word-room.true) | then-word-room-via-else-word-room+then-bytes-room x ↦ omega (arith, x.if-word-room.false, x.if-bytes-room.true) ] in
     let no = too_long c.args.from (w ++ hex_of bs) out h in
@@ -33,7 +26,7 @@ pub loop-b-init : goal.loop-b-init
 loop-b-init c =
     let w = c.args.word.now in
     let kept = same_len_mid c.args.from (c.args.from + length w - c.args.from) c.args.out.now c.copy_from_slice.new.self c.copy_from_slice.ensures.len in
-    (refl, refl, omega (arith, c.in-Some.ensures, length_hex c.args.bytes.now))
+    (refl, refl, omega (arith, c.in_ok-room.ensures, length_hex c.args.bytes.now))
 
 pub slice_bounds-copy_from_slice-end-in-loop-b : goal.slice_bounds-copy_from_slice-end-in-loop-b
 slice_bounds-copy_from_slice-end-in-loop-b c =

@@ -1,4 +1,6 @@
-use Rattle.std.proofs.Common.{◌≡◌, ℕ, ◌-◌, ◌≤◌, [], ◌∷◌, ◌++◌, map, drop, None, vec_items, vec_len, Option, sym, ap, ◌∙◌, ⊎_elim, arith}
+use Rattle.std.proofs.Common.{◌≡◌, ℕ, ◌-◌, ◌≤◌, [], ◌∷◌, ◌++◌, map, None, Option, sym, ap, ◌∙◌, ⊎_elim, arith}
+use Rattle.std.specs.Vec.Iter.{into_iter_items}
+use Rattle.std.specs.declared.ops.Range.{Range}
 use Rattle.settings.specs.Lines.{lines}
 use Rattle.settings.specs.Settings.{turns_of}
 use Rattle.pages.specs.Runs.{Due, Agenda, line_due, turn_due, count_from, Rounds}
@@ -9,8 +11,8 @@ use Rattle.plans.proofs.Dues.{only_lines, all_open, none-due, turn_due_lem, roun
 use Rattle.plans.proofs.agenda.Agenda.next_line.Goals as goal
 
 -- what the function had at its start still holds of an agenda with the same windows
-past : (x y : Here) → vec_len x.opens ≤ x.opened → x.end ≤ x.next → y.opens ≡ x.opens → y.opened ≡ x.opened → y.next ≡ x.next → y.end ≡ x.end → (vec_len y.opens ≤ y.opened) × (y.end ≤ y.next)
-past x y h l a b d e = let f : vec_len y.opens ≡ vec_len x.opens = ap vec_len a in (omega arith, omega arith)
+past : (x y : Here) → into_iter_items x.opens ≡ [] → x.round.end ≤ x.round.start → y.opens ≡ x.opens → y.round ≡ x.round → (into_iter_items y.opens ≡ []) × (y.round.end ≤ y.round.start)
+past x y h l a b = (ap into_iter_items a ∙ h, omega (arith, l, ap (λ (r : Range ℕ). r.start) b, ap (λ (r : Range ℕ). r.end) b))
 
 pub returns-in-Window : goal.returns-in-Window
 returns-in-Window c =
@@ -19,10 +21,10 @@ returns-in-Window c =
     let i = c.loop-line.invariant in
     let e : ◌≡◌ {A = Option Due} (line_due c.args.windows (lines_of c.args.self.now)) (turn_due c.in-Window.window [] (lines_of x)) =
     sym i.0 ∙ ap {B = Option Due} (line_due c.args.windows) (t.line ∙ ap (λ z. line_of z ∷ lines_of x) c.in-Window.is) ∙ turn_due_lem c.args.windows (lines_of x) c.in-Window.window in
-    let p = past c.args.self.now x c.requires.opened c.requires.round (t.rest.0 ∙ i.1) (t.rest.1.0 ∙ i.2) (t.rest.1.1.0 ∙ i.3) (t.rest.1.1.1 ∙ i.4) in
+    let p = past c.args.self.now x c.requires.opened c.requires.round (t.rest.0 ∙ i.1) (t.rest.1 ∙ i.2) in
     record {
       event = sym (ap event_in e);
-      rest = all_open to_open x.opens x.opened x.next x.end (lines_of x) p.0 p.1 ∙ sym (ap rest_of e);
+      rest = all_open to_open x.opens x.round.start x.round.end (lines_of x) p.0 p.1 ∙ sym (ap rest_of e);
     }
 
 pub returns-then-windows-gt0 : goal.returns-then-windows-gt0
@@ -35,8 +37,8 @@ returns-then-windows-gt0 c =
     let e : ◌≡◌ {A = Option Due} (line_due m (lines_of c.args.self.now)) (turn_due 0 (count_from 1 (m - 1)) (Rounds (n - 1) ∷ lines_of x)) =
     sym i.0 ∙ ap {B = Option Due} (line_due m) (t.line ∙ ap (λ z. line_of z ∷ lines_of x) c.in-Rounds.is) ∙ round-due m (lines_of x) n (omega arith) (omega arith) in
     let r : lines_of x ≡ map line_of (turns_of (lines x.turns.text.now)) = ap (λ z. begun_line z ++ map line_of (turns_of (lines x.turns.text.now))) t.begun in
-    let p = past c.args.self.now x c.requires.opened c.requires.round (t.rest.0 ∙ i.1) (t.rest.1.0 ∙ i.2) (t.rest.1.1.0 ∙ i.3) (t.rest.1.1.1 ∙ i.4) in
-    let o : drop x.opened (map to_open (vec_items x.opens)) ≡ [] = ap (λ (z : Agenda). z.opens) (all_open to_open x.opens x.opened x.next x.end (lines_of x) p.0 p.1) in
+    let p = past c.args.self.now x c.requires.opened c.requires.round (t.rest.0 ∙ i.1) (t.rest.1 ∙ i.2) in
+    let o : map to_open (into_iter_items x.opens) ≡ [] = ap (λ (z : Agenda). z.opens) (all_open to_open x.opens x.round.start x.round.end (lines_of x) p.0 p.1) in
     record {
       event = sym (ap event_in e);
       rest =
@@ -54,7 +56,7 @@ loop-line-preserved c =
     let m : ℕ = c.args.windows in
     let skip : ◌≡◌ {A = Option Due} (line_due m (Rounds n ∷ lines_of x)) (line_due m (lines_of x)) =
     ⊎_elim (λ h. no_windows m n (lines_of x) (omega arith)) (λ h. no_rounds m (lines_of x) n (omega arith)) c.else-n-gt0.either in
-    (sym skip ∙ sym (ap {B = Option Due} (line_due m) (t.line ∙ ap (λ z. line_of z ∷ lines_of x) c.in-Rounds.is)) ∙ i.0, t.rest.0 ∙ i.1, t.rest.1.0 ∙ i.2, t.rest.1.1.0 ∙ i.3, t.rest.1.1.1 ∙ i.4)
+    (sym skip ∙ sym (ap {B = Option Due} (line_due m) (t.line ∙ ap (λ z. line_of z ∷ lines_of x) c.in-Rounds.is)) ∙ i.0, t.rest.0 ∙ i.1, t.rest.1 ∙ i.2)
 
 pub returns : goal.returns
 returns c =
@@ -63,8 +65,8 @@ returns c =
     let i = c.loop-line.invariant in
     let e : ◌≡◌ {A = Option Due} (line_due c.args.windows (lines_of c.args.self.now)) None =
     sym i.0 ∙ ap {B = Option Due} (line_due c.args.windows) t.line.0 ∙ none-due c.args.windows [] in
-    let p = past c.args.self.now x c.requires.opened c.requires.round (t.rest.0 ∙ i.1) (t.rest.1.0 ∙ i.2) (t.rest.1.1.0 ∙ i.3) (t.rest.1.1.1 ∙ i.4) in
+    let p = past c.args.self.now x c.requires.opened c.requires.round (t.rest.0 ∙ i.1) (t.rest.1 ∙ i.2) in
     record {
       event = sym (ap event_in e);
-      rest = all_open to_open x.opens x.opened x.next x.end (lines_of x) p.0 p.1 ∙ ap only_lines t.line.1 ∙ sym (ap rest_of e);
+      rest = all_open to_open x.opens x.round.start x.round.end (lines_of x) p.0 p.1 ∙ ap only_lines t.line.1 ∙ sym (ap rest_of e);
     }
