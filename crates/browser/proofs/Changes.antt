@@ -1,13 +1,7 @@
 -- One element of a list is changed. Assumes nothing.
-use Rattle.std.proofs.Common.{◌≡◌, ℕ, zero, suc, ◌<◌, ◌≤◌, List, [], ◌∷◌, map, length, get_or, set, Some, None, vec_items, vec_len, Vec, sym, refl, ap, ◌∙◌, arith}
-use lib.ListN.{length-map}
+use Rattle.std.proofs.Common.{◌≡◌, ℕ, zero, suc, ◌<◌, ◌≤◌, List, [], ◌∷◌, map, length, get_or, set, None, sym, refl, ap, ◌∙◌, arith}
+use Rattle.octets.proofs.Options.{none-some}
 use Rattle.pages.specs.Browser.{change, nth}
-
-pub length-change : {A : Type 0} (i : ℕ) (f : A → A) (xs : List A) → length (change i f xs) ≡ length xs
-unfolding change
-length-change i f [] = refl
-length-change zero f (x ∷ xs) = refl
-length-change (suc i) f (x ∷ xs) = ap suc (length-change i f xs)
 
 module _ {W X : Type 0} (g : W → X) where
   -- y is put at place i, where x stood
@@ -23,18 +17,8 @@ module _ {W X : Type 0} (g : W → X) where
   change-past f (w ∷ ws) zero h = absurd (omega arith)
   change-past f (w ∷ ws) (suc i) h = ap (λ z. g w ∷ z) (change-past f ws i (omega arith))
 
-  pub nth_here : (ws : List W) (i : ℕ) (x : W) → x ≡ get_or ws i x → i < length ws → nth i (map g ws) ≡ Some (g x)
-  unfolding nth
-  nth_here [] i x r h = absurd (omega arith)
-  nth_here (w ∷ ws) zero x r h = ap (λ z. Some (g z)) (sym r)
-  nth_here (w ∷ ws) (suc i) x r h = nth_here ws i x r (omega arith)
-
-  pub nth_past : (ws : List W) (i : ℕ) → length ws ≤ i → nth i (map g ws) ≡ None
-  unfolding nth
-  nth_past [] i h = refl
-  nth_past (w ∷ ws) zero h = absurd (omega arith)
-  nth_past (w ∷ ws) (suc i) h = nth_past ws i (omega arith)
-
-  -- as many as the vector has
-  pub count_is : {Z : Type 0} (v : Vec W Z) → length (map g (vec_items v)) ≡ vec_len v
-  count_is v = length-map (vec_items v) g ∙ sym v.ok.0
+pub change-none : {X : Type 0} (f : X → X) (xs : List X) (i : ℕ) → nth i xs ≡ None → change i f xs ≡ xs
+unfolding change nth
+change-none f [] i e = refl
+change-none f (x ∷ xs) zero e = absurd (none-some x (sym e))
+change-none f (x ∷ xs) (suc i) e = ap (λ z. x ∷ z) (change-none f xs i e)

@@ -1,5 +1,4 @@
 pub mod Changes
-pub mod Parts
 pub mod Turns
 pub mod Replies
 pub mod Together

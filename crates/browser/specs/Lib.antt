@@ -2,6 +2,8 @@ pub mod Wire
 pub mod Needs
 pub mod Values
 pub mod Deeds
+pub mod Rows
+pub mod Ran
 pub mod Parts
 pub mod Halves
 pub mod Ends

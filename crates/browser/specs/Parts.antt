@@ -1,18 +1,18 @@
 -- What a browser stands for: the browser's part of the promise's world.
-use Rattle.std.specs.Prelude.{[], map, length, None, vec_items}
+use Rattle.std.specs.Prelude.{[], length, None}
 use Rattle.machine.specs.Script.{State}
 use Rattle.pages.specs.Sites.{Scripts}
 use Rattle.pages.specs.Browser.{Part}
 use Rattle.storage.specs.Storage.{tokens_of, stores_of}
 use Rattle.storage.specs.Tables.{table_of}
 use Rattle.windows.specs.Scripts.{by_machine}
-use Rattle.windows.specs.Windows.{window_of}
 use Rattle.browser.specs.declared.browser.Browser.{Browser}
+use Rattle.browser.specs.Rows.{windows_of}
 use Rattle.browser.specs.Wire.{SiteTable}
 
 -- Windows, tokens and stores.
 abbrev pub part_of : Browser → Part State
-part_of b = record { windows = map window_of (vec_items b.windows); tokens = tokens_of b.tokens; kept = stores_of b.stores }
+part_of b = record { windows = windows_of b.windows; tokens = tokens_of b.tokens; kept = stores_of b.stores }
 
 -- The sites that the settings named.
 abbrev pub sites_in : Browser → SiteTable

@@ -1,4 +1,5 @@
-// What a page does in its turn, with its bytes by value.
+// What a page does in its turn, with its bytes by value: the machine's own acts name places in the window's memory, and the
+// window is part of the browser that the deed changes.
 ghost use Rattle.std.specs.Prelude.{◌≡◌, ◌≤◌};
 ghost use Rattle.machine.specs.Script.{done_in};
 ghost use Rattle.windows.specs.Scripts.{act_by, InLimits};

@@ -10,18 +10,12 @@ use bounded::text::Text;
 pub(crate) fn text<const N: usize>(bytes: &[u8]) -> Text<N>
     ensures { length bytes.now ≤ N → text_of result ≡ bytes.now }
 {
-    match Text::new(bytes) {
-        Some(text) => text,
-        None => Text::empty(),
-    }
+    Text::new(bytes).unwrap_or(Text::empty())
 }
 
 // This number, which is a site's.
 pub(crate) fn number(site: u32, other: SiteNumber) -> SiteNumber
     ensures { site < 16 → number_of result ≡ site }
 {
-    match SiteNumber::new(site) {
-        Some(number) => number,
-        None => other,
-    }
+    SiteNumber::new(site).unwrap_or(other)
 }

@@ -5,4 +5,5 @@ pub mod browser;
 mod deed;
 mod fitted;
 pub mod pending;
+mod row;
 pub mod values;

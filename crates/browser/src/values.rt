@@ -13,7 +13,7 @@ pub struct Need {
 }
 
 // What a site lets out.
-#[derive(Clone, Copy)]
+#[derive(Clone, Copy, PartialEq)]
 pub enum What {
     Asked { path: Text<255>, body: Text<1024> },
     Said { window: u32, what: Text<1024> },
@@ -22,7 +22,7 @@ pub enum What {
 }
 
 // By which site, and to which.
-#[derive(Clone, Copy)]
+#[derive(Clone, Copy, PartialEq)]
 pub struct Out {
     pub from: SiteNumber,
     pub to: SiteNumber,

@@ -1,4 +1,4 @@
-// The limits of the browser, as numbers.
+// The limits of the browser, as numbers. Functions: each carries a promise in its contract, which a const cannot.
 ghost use Rattle.std.specs.Prelude.{◌≡◌};
 ghost use Rattle.pages.specs.Browser.{most_windows, most_words};
 

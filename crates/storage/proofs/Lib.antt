@@ -1,4 +1,2 @@
 pub mod Updates
-pub mod Blocks
 pub mod Rows
-pub mod Adding

@@ -1,13 +1,12 @@
-ghost use Rattle.std.specs.Prelude.{◌≡◌, ℕ, ◌≤◌, length, vec_len, slice_index};
+ghost use Rattle.std.specs.Prelude.{◌≡◌, vec_len};
+
+use bounded::text::Text;
 
 mod access;
 
-// What each site keeps: the first bytes of its part of one block.
+// What each site keeps, by the site's number.
 #[derive(Drop)]
 pub struct Stores {
-    lens: [usize; 16],
-    bytes: Vec<u8>,
-    ghost all: { length lens ≡ 16 },
-    ghost short: { ((s : ℕ) → slice_index lens s ≤ 4096) },
-    ghost room: { vec_len bytes ≡ 65536 },
+    texts: Vec<Text<4096>>,
+    ghost all: { vec_len texts ≡ 16 },
 }

@@ -1,7 +1,8 @@
-ghost use Rattle.std.specs.Prelude.{◌≡◌, ◌≤◌, true, map, length, take};
-ghost use Rattle.bounded.specs.Texts.{text_of};
-ghost use Rattle.storage.specs.Rows.{all_sites};
+ghost use Rattle.std.specs.Prelude.{◌≡◌, true, map};
+ghost use Rattle.bounded.specs.Fixed.{items_of};
+ghost use Rattle.storage.specs.Rows.{all_sites, row_of};
 
+use bounded::fixed::FixedVec;
 use bounded::text::Text;
 
 mod access;
@@ -16,9 +17,6 @@ struct Row {
 // Hosts and ports of the sites, by number.
 #[derive(Clone, Copy)]
 pub struct Table {
-    len: usize,
-    rows: [Row; 16],
-    ghost few: { len ≤ 16 },
-    ghost all: { length rows ≡ 16 },
-    ghost sites: { all_sites (map (λ r. (text_of r.host, r.port)) (take len rows)) ≡ true },
+    rows: FixedVec<Row, 16>,
+    ghost sites: { all_sites (map row_of (items_of rows)) ≡ true },
 }

@@ -71,8 +71,8 @@ fn no_token_is_not_the_empty_token(rt: HostRuntime) -> Result<(), Fail> {
     assert_eq!(rt; none.get(site).is_none(), true);
     assert_eq!(rt; tokens.get(site).ok_or("no token")?, b"".as_slice());
     assert_eq!(rt; tokens.get(other).is_none(), true);
-    assert_eq!(rt; tokens.same(&none, site), false);
-    assert_eq!(rt; tokens.same(&none, other), true);
+    assert_eq!(rt; tokens.same_for(&none, site), false);
+    assert_eq!(rt; tokens.same_for(&none, other), true);
     Ok(())
 }
 

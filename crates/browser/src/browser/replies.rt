@@ -1,5 +1,5 @@
 // What is done with a server's answer.
-ghost use Rattle.std.specs.Prelude.{◌≡◌, ◌<◌, ◌≤◌, true, [], ◌∷◌, ◌++◌, length, Some, None, vec_len};
+ghost use Rattle.std.specs.Prelude.{◌≡◌, ◌<◌, ◌≤◌, true, [], ◌∷◌, ◌++◌, length, Some, None};
 ghost use Rattle.answers.specs.declared.Kind.TheVariants.{Asked, Page};
 ghost use Rattle.answers.specs.Answers.{read_answer};
 ghost use Rattle.answers.specs.Views.{content_of};
@@ -37,6 +37,7 @@ pub(crate) struct Replied {
     pub(crate) fault: u8,
 }
 
+// The numbers go into the book's lines as they are.
 fn fault_number(e: MessageFault) -> u8
     ensures { result ≡ fault_number e }
 {
@@ -49,10 +50,7 @@ fn fault_number(e: MessageFault) -> u8
 fn page_fault(unreadable: Option<Unreadable>) -> u8
     ensures { result ≡ unreadable_number unreadable }
 {
-    match unreadable {
-        Some(fault) => fault.number(),
-        None => 0,
-    }
+    unreadable.map_or(0, |fault| fault.number())
 }
 
 impl Browser {
@@ -76,15 +74,16 @@ impl Browser {
         ensures rest { self.new.table ≡ self.old.table }
     {
         let lets = a.allows(self.site(from));
-        let own = need.site.number() == from.number();
+        let own = need.site == from;
         let site = u32::from(need.site.number());
         self.take(need, a);
         if !own && !lets {
-            self.tell(window, Told::Barred { site }, &[]);
+            self.windows.tell(window, Told::Barred { site }, &[]);
             return None;
         }
         let code = u32::from(a.code);
-        self.tell(window, Told::Answer { site, code }, a.body);
+        self.windows
+            .tell(window, Told::Answer { site, code }, a.body);
         if own {
             return None;
         }
@@ -113,7 +112,7 @@ impl Browser {
             },
             Err(e) => {
                 let site = u32::from(need.site.number());
-                self.tell(window, Told::Barred { site }, &[]);
+                self.windows.tell(window, Told::Barred { site }, &[]);
                 Replied {
                     out: None,
                     fault: fault_number(e),
@@ -124,44 +123,40 @@ impl Browser {
 
     // A window more, with this page: one that can't be read gives it a script that does nothing, and has a number.
     fn add(&mut self, need: &Need, page: &[u8]) -> u8
-        requires { vec_len self.old.windows < 16 }
+        requires { length (part_of self.old).windows < 16 }
         ensures part { part_of self.new ≡ with_windows ((part_of self.old).windows ++ (window_with (number_of need.now.site) (text_of need.now.path) (steps_from (Some page.now)) ∷ [])) (part_of self.old) }
         ensures fault { result ≡ steps_fault (page_in page.now) }
         ensures rest { self.new.table ≡ self.old.table }
     {
         let (script, unreadable) = script_of(Some(page));
         let window = Window::new(need.site, &need.path, script);
-        self.windows.push_reserved(window);
+        self.windows.push(window);
         page_fault(unreadable)
     }
 
-    // The page of a window that is opened. An answer that can't be read has none, which is like an empty one.
-    fn opened(&mut self, need: &Need, bytes: &[u8]) -> Replied
-        requires { vec_len self.old.windows < 16 }
+    // The page of a window that is opened, and the number of the fault. An answer that can't be read has none, which is like
+    // an empty one.
+    fn opened(&mut self, need: &Need, bytes: &[u8]) -> u8
+        requires { length (part_of self.old).windows < 16 }
         ensures part { part_of self.new ≡ replied_to (scripts_in self.old) 0 None (need_of (tokens_of self.old.tokens) need.now) (reply_of (sites_in self.old) Page bytes.now) (part_of self.old) }
-        ensures out { result.out ≡ None }
-        ensures fault { result.fault ≡ read_fault None (read_answer Page bytes.now) }
+        ensures fault { result ≡ read_fault None (read_answer Page bytes.now) }
         ensures rest { self.new.table ≡ self.old.table }
     {
         match read_answer(Kind::Page, bytes) {
             Ok(a) => {
                 self.take(need, a);
-                let fault = self.add(need, a.body);
-                Replied { out: None, fault }
+                self.add(need, a.body)
             }
             Err(e) => {
                 let _ = self.add(need, &[]);
-                Replied {
-                    out: None,
-                    fault: fault_number(e),
-                }
+                fault_number(e)
             }
         }
     }
 
     // An answer comes: to an asking of the window's page, or to an opening.
     pub(crate) fn reply(&mut self, window: usize, need: &Need, bytes: &[u8]) -> Replied
-        requires { ready_for (vec_len self.old.windows) window need.now.from ≡ true }
+        requires { ready_for (length (part_of self.old).windows) window need.now.from ≡ true }
         ensures part { part_of self.new ≡ finished (sites_in self.old) window (Some (need_of (tokens_of self.old.tokens) need.now)) bytes.now (part_of self.old) }
         ensures out { outs_of result.out ≡ server_outs_of (sites_in self.old) (Some (need_of (tokens_of self.old.tokens) need.now)) bytes.now }
         ensures fault { result.fault ≡ answer_fault (Some (need_of (tokens_of self.old.tokens) need.now)) bytes.now }
@@ -169,7 +164,10 @@ impl Browser {
     {
         match need.from {
             Some(from) => self.answered(window, need, from, bytes),
-            None => self.opened(need, bytes),
+            None => Replied {
+                out: None,
+                fault: self.opened(need, bytes),
+            },
         }
     }
 }

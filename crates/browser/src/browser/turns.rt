@@ -11,9 +11,8 @@ ghost use Rattle.browser.specs.Values.{need_of, outs_of};
 ghost use Rattle.storage.specs.Tables.{table_of};
 
 use super::Browser;
-use crate::deed::deed_of;
 use crate::pending::Pending;
-use crate::values::Need;
+use crate::row::Row;
 use bounded::site::SiteNumber;
 use bounded::text::Text;
 use std::alloc::{AllocError, Global};
@@ -28,7 +27,7 @@ impl Browser {
         ensures part { IfOk result (λ b. part_of b ≡ nothing) }
         ensures sites { IfOk result (λ b. sites_in b ≡ table_of table) }
     {
-        let windows = Vec::with_capacity(heap, 16)?;
+        let windows = Row::new(heap)?;
         let stores = Stores::new(heap)?;
         Ok(Browser {
             windows,
@@ -46,8 +45,8 @@ impl Browser {
         ensures fault { result.fault ≡ run_fault (length (sites_in self)) (nth window (part_of self).windows) }
         ensures rest { (result.window ≡ window) × (sites_in result.browser ≡ sites_in self) }
     {
-        let i = window as usize;
-        if i >= self.windows.len() {
+        let sites = self.table.len();
+        let Some(ran) = self.windows.run(window, sites) else {
             return Pending {
                 browser: self,
                 window,
@@ -55,19 +54,15 @@ impl Browser {
                 out: None,
                 fault: 0,
             };
-        }
-        let sites = self.table.len();
-        let site = self.windows[i].site();
-        let outcome = self.windows[i].step(sites);
-        let deed = deed_of(&self.windows[i], outcome, sites);
-        let out = self.page_out(site, &deed);
-        let need = self.act(i, site, &deed);
+        };
+        let out = self.page_out(ran.site, &ran.deed);
+        let need = self.act(window as usize, ran.site, &ran.deed);
         Pending {
             browser: self,
             window,
             need,
             out,
-            fault: outcome.fault(),
+            fault: ran.fault,
         }
     }
 
@@ -79,16 +74,7 @@ impl Browser {
         ensures fault { result.fault ≡ 0 }
         ensures rest { (result.window ≡ 0) × (sites_in result.browser ≡ sites_in self) }
     {
-        let need = if self.windows.len() < 16 {
-            Some(Need {
-                site,
-                from: None,
-                path: *path,
-                body: Text::empty(),
-            })
-        } else {
-            None
-        };
+        let need = self.page_needed(site, *path);
         Pending {
             browser: self,
             window: 0,

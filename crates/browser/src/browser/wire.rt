@@ -1,6 +1,5 @@
 // What a request says on the wire: hosts and ports in place of numbers, and the server's token.
 ghost use Rattle.std.specs.Prelude.{◌≡◌};
-ghost use Rattle.std.specs.Option.{option_map};
 ghost use Rattle.addresses.specs.Views.{site_of};
 ghost use Rattle.bounded.specs.Numbers.{number_of};
 ghost use Rattle.requests.specs.Views.{asking_of as asking_by};
@@ -20,20 +19,9 @@ impl Browser {
     pub(crate) fn site(&self, number: SiteNumber) -> Site<'_>
         ensures { site_of result ≡ site_at (sites_in self.now) (number_of number) }
     {
-        match self.table.site(number) {
-            Some(site) => site,
-            None => Site { host: &[], port: 0 },
-        }
-    }
-
-    // The asking site, if a page asks.
-    fn origin(&self, from: Option<SiteNumber>) -> Option<Site<'_>>
-        ensures { option_map site_of result ≡ option_map (site_at (sites_in self.now)) (option_map number_of from) }
-    {
-        match from {
-            Some(number) => Some(self.site(number)),
-            None => None,
-        }
+        self.table
+            .site(number)
+            .unwrap_or(Site { host: &[], port: 0 })
     }
 
     // The request that is made of a need.
@@ -41,7 +29,7 @@ impl Browser {
         ensures { asking_by result ≡ asking_of (sites_in self.now) (need_of (tokens_of self.now.tokens) need.now) }
     {
         let site = self.site(need.site);
-        let origin = self.origin(need.from);
+        let origin = need.from.map(|from| self.site(from));
         let token = self.tokens.get(need.site);
         Request {
             site,

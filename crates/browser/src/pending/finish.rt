@@ -6,6 +6,7 @@ ghost use Rattle.browser.specs.Parts.{part_of, sites_in};
 ghost use Rattle.browser.specs.Values.{outs_of};
 
 use super::{Finished, Pending};
+use crate::browser::replies::Replied;
 use requests::write::write_request;
 
 impl Pending {
@@ -13,10 +14,7 @@ impl Pending {
     pub fn asks(&self) -> Option<u8>
         ensures { result ≡ option_map (λ q. q.site) (request_of self.now) }
     {
-        match self.need {
-            Some(need) => Some(need.site.number()),
-            None => None,
-        }
+        self.need.map(|need| need.site.number())
     }
 
     // Writes the request to the front of the room, and says how long it is.
@@ -24,9 +22,7 @@ impl Pending {
         ensures count { result ≡ request_count (sites_in self.now.browser) (request_of self.now) room.old }
         ensures room { room.new ≡ request_written (sites_in self.now.browser) (request_of self.now) room.old }
     {
-        let Some(need) = &self.need else {
-            return None;
-        };
+        let need = self.need.as_ref()?;
         write_request(room, self.browser.asking(need))
     }
 
@@ -45,20 +41,15 @@ impl Pending {
             out,
             fault,
         } = self;
-        let Some(need) = need else {
-            return Finished {
-                browser,
-                page: out,
-                server: None,
-                fault,
-            };
+        let Replied { out: server, fault } = match need {
+            Some(need) => browser.reply(window as usize, &need, answer),
+            None => Replied { out: None, fault },
         };
-        let replied = browser.reply(window as usize, &need, answer);
         Finished {
             browser,
             page: out,
-            server: replied.out,
-            fault: replied.fault,
+            server,
+            fault,
         }
     }
 }

@@ -1,46 +1,33 @@
 // Each site's bytes are kept and looked at by its number.
-ghost use Rattle.std.specs.Prelude.{◌≡◌, ◌≤◌, [], ◌++◌, length, drop, IfOk, if◌then◌else◌, Decides, nat_le};
+ghost use Rattle.std.specs.Prelude.{◌≡◌, ◌≤◌, [], length, IfOk, if◌then◌else◌, Decides, nat_le};
 ghost use Rattle.pages.specs.Browser.{at};
 ghost use Rattle.bounded.specs.Numbers.{number_of};
 ghost use Rattle.storage.specs.Storage.{stores_of};
 
 use super::Stores;
 use bounded::site::SiteNumber;
+use bounded::text::Text;
 use std::alloc::{AllocError, Global};
-
-// Writes the bytes at the start of a site's part; the rest of the part stays.
-fn put(part: &mut [u8], bytes: &[u8])
-    requires { length bytes.now ≤ length part.old }
-    ensures { part.new ≡ bytes.now ++ drop (length bytes.now) part.old }
-{
-    let len = bytes.len();
-    part[0..len].copy_from_slice(bytes);
-}
 
 impl Stores {
     // Claims all the memory. No site keeps anything.
     pub fn new(heap: Global) -> Result<Stores, AllocError>
         ensures { IfOk result (λ s. stores_of s ≡ (λ _. [])) }
     {
-        let bytes = vec![in heap; 0; 65536]?;
-        Ok(Stores {
-            lens: [0; 16],
-            bytes,
-        })
+        let texts = vec![in heap; Text::empty(); 16]?;
+        Ok(Stores { texts })
     }
 
     // The site keeps these bytes and no others; more than 4,096 are refused.
+    // A bool: there is one reason to refuse, and the contract is of the bool.
     pub fn keep(&mut self, site: SiteNumber, bytes: &[u8]) -> bool
         ensures answer { result ≡ nat_le (length bytes.now) 4096 }
         ensures after { stores_of self.new ≡ (if result then at (number_of site) bytes.now (stores_of self.old) else stores_of self.old) }
     {
-        if bytes.len() > 4096 {
+        let Some(text) = Text::new(bytes) else {
             return false;
-        }
-        let place = site.number() as usize;
-        let from = place * 4096;
-        put(&mut self.bytes[from..from + 4096], bytes);
-        self.lens[place] = bytes.len();
+        };
+        self.texts[site.number() as usize] = text;
         true
     }
 
@@ -49,13 +36,11 @@ impl Stores {
         ensures is { result.now ≡ stores_of self.now (number_of site) }
         ensures short { length result.now ≤ 4096 }
     {
-        let place = site.number() as usize;
-        let start = place * 4096;
-        &self.bytes[start..start + self.lens[place]]
+        self.texts[site.number() as usize].as_slice()
     }
 
-    // Do both keep the same for the site?
-    pub fn same(&self, other: &Stores, site: SiteNumber) -> bool
+    // Do both keep the same for the site? No `==`: that would compare all sites.
+    pub fn same_for(&self, other: &Stores, site: SiteNumber) -> bool
         ensures { Decides result (stores_of self.now (number_of site) ≡ stores_of other.now (number_of site)) }
     {
         self.look(site) == other.look(site)

@@ -1,16 +1,28 @@
 // Sites are added to the table, and found by number.
-ghost use Rattle.std.specs.Prelude.{◌≡◌, ◌≤◌, true, [], length, IfSome};
+ghost use Rattle.std.specs.Prelude.{◌≡◌, ◌≤◌, true, [], length, Some, IfSome, IfNone};
 ghost use Rattle.std.specs.Option.{option_map};
 ghost use Rattle.addresses.specs.Address.{site_ok};
 ghost use Rattle.addresses.specs.Views.{site_of};
 ghost use Rattle.pages.specs.Browser.{nth};
 ghost use Rattle.bounded.specs.Numbers.{number_of};
-ghost use Rattle.storage.specs.Tables.{table_of, added, numbered};
+ghost use Rattle.storage.specs.Tables.{row_of, table_of, added, numbered, NotBelow};
 
 use super::{Row, Table};
 use addresses::{Site, is_site};
+use bounded::fixed::FixedVec;
 use bounded::site::SiteNumber;
 use bounded::text::Text;
+
+impl Row {
+    fn site(&self) -> Site<'_>
+        ensures { site_of result ≡ row_of self.now }
+    {
+        Site {
+            host: self.host.as_slice(),
+            port: self.port,
+        }
+    }
+}
 
 impl Table {
     pub fn new() -> Table
@@ -21,8 +33,7 @@ impl Table {
             port: 0,
         };
         Table {
-            len: 0,
-            rows: [row; 16],
+            rows: FixedVec::empty(row),
         }
     }
 
@@ -31,7 +42,7 @@ impl Table {
         ensures is { result ≡ length (table_of self.now) }
         ensures few { result ≤ 16 }
     {
-        self.len as u32
+        self.rows.len() as u32
     }
 
     // The next number is the site's, if host and port are within their rules and there is room.
@@ -42,17 +53,12 @@ impl Table {
         if !is_site(site) {
             return None;
         }
-        let Some(number) = SiteNumber::new(self.len()) else {
-            return None;
-        };
-        let Some(host) = Text::new(site.host) else {
-            return None;
-        };
-        self.rows[self.len] = Row {
+        let number = SiteNumber::new(self.len())?;
+        let host = Text::new(site.host)?;
+        self.rows.push(Row {
             host,
             port: site.port,
-        };
-        self.len += 1;
+        })?;
         Some(number)
     }
 
@@ -61,14 +67,18 @@ impl Table {
         ensures is { option_map site_of result ≡ nth (number_of number) (table_of self.now) }
         ensures ok { IfSome result (λ s. site_ok s.host.now s.port ≡ true) }
     {
-        let place = number.number() as usize;
-        if place >= self.len {
-            return None;
-        }
-        let row = &self.rows[place];
-        Some(Site {
-            host: row.host.as_slice(),
-            port: row.port,
-        })
+        let row = self.rows.as_slice().get(number.number() as usize)?;
+        Some(row.site())
+    }
+
+    // The number of a site, if it has one: the first of them.
+    pub fn number_of(&self, site: Site<'_>) -> Option<SiteNumber>
+        ensures is { IfSome result (λ n. nth (number_of n) (table_of self.now) ≡ Some (site_of site.entry)) }
+        ensures first { IfSome result (λ n. NotBelow (number_of n) (site_of site.entry) (table_of self.now)) }
+        ensures none { IfNone result (NotBelow 16 (site_of site.entry) (table_of self.now)) }
+    {
+        let rows = self.rows.as_slice();
+        let place = rows.iter().position(|row| row.site() == site)?;
+        SiteNumber::new(place as u32)
     }
 }

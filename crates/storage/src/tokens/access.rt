@@ -21,10 +21,9 @@ impl Tokens {
     pub fn get(&self, site: SiteNumber) -> Option<&[u8]>
         ensures { option_map (λ t. t.now) result ≡ tokens_of self.now (number_of site) }
     {
-        match &self.tokens[site.number() as usize] {
-            Some(token) => Some(token.as_slice()),
-            None => None,
-        }
+        self.tokens[site.number() as usize]
+            .as_ref()
+            .map(Text::as_slice)
     }
 
     pub fn set(&mut self, site: SiteNumber, token: &Text<64>)
@@ -33,14 +32,10 @@ impl Tokens {
         self.tokens[site.number() as usize] = Some(*token);
     }
 
-    // Have both the same token for the site, or none?
-    pub fn same(&self, other: &Tokens, site: SiteNumber) -> bool
+    // Have both the same token for the site, or none? No `==`: that would compare all sites.
+    pub fn same_for(&self, other: &Tokens, site: SiteNumber) -> bool
         ensures { Decides result (tokens_of self.now (number_of site) ≡ tokens_of other.now (number_of site)) }
     {
-        match (self.get(site), other.get(site)) {
-            (Some(mine), Some(its)) => mine == its,
-            (None, None) => true,
-            _ => false,
-        }
+        self.get(site) == other.get(site)
     }
 }

@@ -1,14 +1,13 @@
-use Rattle.std.proofs.Common.{sym, ap, ◌∙◌, arith, rules}
-use Rattle.std.proofs.lemmas.Bool.{le-leb}
-use Rattle.storage.proofs.Blocks.{kept, short_set}
+use Rattle.std.proofs.Common.{[], vec_items, ap, ◌∙◌, arith}
+use Rattle.bounded.specs.Texts.{text_of}
+use Rattle.bounded.specs.Numbers.{number_of}
+use Rattle.pages.specs.Browser.{at}
+use Rattle.storage.specs.Storage.{stores_of}
+use Rattle.storage.proofs.Rows.{at_most_is}
+use Rattle.storage.proofs.Updates.{set_at}
 use Rattle.storage.proofs.stores.Stores.keep.Goals as goal
 
-pub invariant_of-self : goal.invariant_of-self
-invariant_of-self c = record { all = search rules; short = short_set _ _ _ c.args.self.now.short (omega arith) (omega arith); room = c.args.self.now.room }
-
-pub returns : goal.returns
-returns c = record {
-  answer = sym (le-leb _ _ (omega arith));
-  after = kept c.args.self.now.bytes c.args.self.now.lens _ _ c.args.bytes.now _ _ _ _ c.number-place.ensures.is c.deref_mut.ensures.value c.put.ensures c.args.self.now.short
-      (omega arith) (omega arith) (omega arith) (omega arith) (search rules);
-}
+pub returns-clause-after : goal.returns-clause-after
+returns-clause-after c =
+    set_at text_of [] (vec_items c.args.self.now.texts) _ _ c.in-Some.text c.number.ensures.is (omega arith)
+    ∙ ap (λ z. at (number_of c.args.site) z (stores_of c.args.self.now)) (at_most_is 4096 (text_of c.in-Some.text) c.args.bytes.now c.in-Some.ensures)

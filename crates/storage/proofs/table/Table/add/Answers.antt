@@ -1,21 +1,19 @@
-use Rattle.std.proofs.Common.{◌≡◌, ◌<◌, sym, ◌∙◌, arith, length-set}
+use Rattle.std.proofs.Common.{◌≡◌, true, map, sym, ap, ◌∙◌}
 use Rattle.octets.proofs.Options.{none-some}
-use Rattle.storage.proofs.Rows.{site-fits}
-use Rattle.storage.proofs.Adding.{room, all_grown, grown_is, numbered_is}
+use Rattle.addresses.specs.Address.{site_ok}
+use Rattle.storage.specs.Rows.{all_sites, row_of}
+use Rattle.storage.proofs.Rows.{site-fits, at_most_is, all_appended}
 use Rattle.storage.proofs.table.Table.add.Goals as goal
 
 -- a site's host always fits a row
-pub returns-in_default-new : goal.returns-in_default-new
-returns-in_default-new c = absurd (none-some c.args.site.host.now (c.in_default-new.ensures ∙ site-fits c.args.site.host.now c.args.site.port (sym c.is_site.ensures ∙ c.if-not-is_site.false)))
+pub returns-in_err-host : goal.returns-in_err-host
+returns-in_err-host c =
+    let site = c.args.site in
+    absurd (none-some site.host.now (c.in_err-host.ensures ∙ site-fits site.host.now site.port (sym c.is_site.ensures ∙ c.if-not-is_site.false)))
 
 pub invariant_of-self : goal.invariant_of-self
 invariant_of-self c =
-    let free : c.args.self.now.len < 16 = room c.args.self.now c.args.site.host.now c.in-Some-new.host c.args.site.port _ _ _ c.len.ensures.is c.is_site.ensures c.if-not-is_site.false c.in-Some-new.ensures c.in-Some.ensures in
-    let grown = all_grown c.args.self.now c.args.site.host.now c.in-Some-new.host c.args.site.port _ _ _ c.len.ensures.is c.is_site.ensures c.if-not-is_site.false c.in-Some-new.ensures c.in-Some.ensures in
-    record { few = omega arith; all = length-set _ _ _ ∙ c.args.self.now.all; sites = grown }
-
-pub returns : goal.returns
-returns c = record {
-  answer = numbered_is c.args.self.now c.args.site.host.now c.in-Some-new.host c.args.site.port _ _ _ c.len.ensures.is c.is_site.ensures c.if-not-is_site.false c.in-Some-new.ensures c.in-Some.ensures;
-  after = grown_is c.args.self.now c.args.site.host.now c.in-Some-new.host c.args.site.port _ _ _ c.len.ensures.is c.is_site.ensures c.if-not-is_site.false c.in-Some-new.ensures c.in-Some.ensures;
-}
+    let site = c.args.site in
+    let ok : site_ok site.host.now site.port ≡ true = sym c.is_site.ensures ∙ c.if-not-is_site.false in
+    let kept = ap (λ h. site_ok h site.port) (at_most_is 511 _ site.host.now c.in_ok-host.ensures) ∙ ok in
+    record { sites = ap (λ rows. all_sites (map row_of rows)) c.push.ensures.after ∙ all_appended _ _ c.args.self.now.sites kept }

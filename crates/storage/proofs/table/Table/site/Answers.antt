@@ -1,22 +1,31 @@
-use Rattle.std.proofs.Common.{◌≡◌, get_or, Some, sym, ap, ◌∙◌, arith}
+use Rattle.std.proofs.Common.{◌≡◌, ◌<◌, ◌≤◌, map, length, Some, sym, ap, ◌∙◌, arith}
+use Rattle.addresses.specs.Views.{site_of}
 use Rattle.pages.specs.Browser.{nth}
-use Rattle.storage.specs.Tables.{row_of, table_of}
-use Rattle.storage.proofs.Rows.{row_at, row-past, all-nth}
+use Rattle.storage.specs.Rows.{row_of}
+use Rattle.storage.specs.Tables.{table_of}
+use Rattle.storage.proofs.Rows.{nth_here, nth_past, all-nth}
 use Rattle.storage.proofs.table.Table.site.Goals as goal
 
-pub returns-then-place-self : goal.returns-then-place-self
-returns-then-place-self c = record {
-  is = sym (row-past row_of c.args.self.now.rows c.args.self.now.len (omega arith) _ (omega arith));
-  ok = tt;
-}
+pub returns-in_err-row-clause-is : goal.returns-in_err-row-clause-is
+returns-in_err-row-clause-is c =
+    let rows = c.as_slice.result.now in
+    let past : length rows ≤ c.number.result = omega (arith, c.in_err-row.ensures.lookup) in
+    let none = nth_past row_of rows c.number.result past in
+    let whole = ap (λ xs. nth c.number.result (map row_of xs)) c.as_slice.ensures.is in
+    cc (c.from_residual.ensures, none, whole)
 
-found : (c : goal.After-as_slice) →
-    Some (c.as_slice.result.now, (get_or c.args.self.now.rows c.number-place.result c.index-self-place.result).port) ≡ nth c.args.number.number (table_of c.args.self.now)
+found : (c : goal.After-site) → Some (site_of c.site.result) ≡ nth c.args.number.number (table_of c.args.self.now)
 found c =
-    let t = c.args.self.now in
-    ap (λ h. Some (h, (get_or t.rows c.number-place.result c.index-self-place.result).port)) c.as_slice.ensures.is
-    ∙ sym (row_at row_of t.rows t.len (omega arith) c.number-place.result c.index-self-place.result c.if-place-self.false)
-    ∙ ap (λ n. nth n (table_of t)) c.number-place.ensures.is
+    let rows = c.as_slice.result.now in
+    let row = c.in_ok-row.row.now in
+    let inside : c.number.result < length rows = omega (arith, c.in_ok-row.ensures.lookup) in
+    ap (λ s. Some s) c.site.ensures
+    ∙ sym (nth_here row_of rows c.number.result row c.in_ok-row.ensures.lookup.1 inside)
+    ∙ ap (λ xs. nth c.number.result (map row_of xs)) c.as_slice.ensures.is
+    ∙ ap (λ n. nth n (table_of c.args.self.now)) c.number.ensures.is
 
-pub returns : goal.returns
-returns c = record { is = found c; ok = all-nth (table_of c.args.self.now) _ (_, _) c.args.self.now.sites (sym (found c)) }
+pub returns-clause-is : goal.returns-clause-is
+returns-clause-is c = found c
+
+pub returns-clause-ok : goal.returns-clause-ok
+returns-clause-ok c = all-nth (table_of c.args.self.now) _ (_, _) c.args.self.now.sites (sym (found c))
