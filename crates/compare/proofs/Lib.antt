@@ -3,4 +3,3 @@ pub mod Sites
 pub mod Answers
 pub mod Worlds
 pub mod Picked
-pub mod Requests

@@ -1,6 +1,9 @@
 -- What each site has, compared site by site.
-use Rattle.std.proofs.Common.{◌≡◌, ℕ, ◌+◌, ◌*◌, ◌<◌, ◌≤◌, false, cond, [], map, take, drop, Some, None, vec_items, sym, ap, ◌∙◌, subst, ⊎_elim, arith, below_more}
+use Rattle.std.proofs.Common.{◌≡◌, ℕ, ◌+◌, ◌<◌, ◌≤◌, Bool, true, false, cond, [], map, get_or, Some, None, vec_items, Decides, sym, refl, ap, ◌∙◌, subst, ⊎_elim, true≢false, arith, below_more}
 use lib.ListN.{length-map}
+use Rattle.std.specs.Bool.{MatchBool}
+use Rattle.std.specs.List.{AllWithin, HoldsAt, range_with_len}
+use Rattle.std.proofs.lemmas.List.FromFn.{get_or-range_with_len}
 use Rattle.std.specs.Option.{option_map}
 use Rattle.std.proofs.lemmas.List.{get_or_past}
 use Rattle.std.proofs.lemmas.Bool.{cases_lt, lt-ltb}
@@ -33,6 +36,26 @@ module _ {V : Type 0} (h : Group) (f g : ℕ → V) where
   pub so_far_apart : (n k : ℕ) → k ≡ n → SoFar n → h k ≡ false → (f k ≡ g k → ⊥) → ApartAt h f g k
   so_far_apart n k e p o d = record { outside = o; differ = d; before = λ t l. p.0 t (omega arith) }
 
+  -- of one site, and of what is beyond
+  abbrev pub Same : ℕ → Type 0
+  Same s = (h s ≡ false → f s ≡ g s) × Beyond
+
+  abbrev pub Other : ℕ → Type 0
+  Other s = (h s ≡ false → f s ≡ g s) → ⊥
+
+  nth_number : (k : ℕ) → k < 16 → get_or (range_with_len 0 16) k 0 ≡ k
+  nth_number k l = let e = get_or-range_with_len 0 16 k 0 l in omega (arith, e)
+
+  pub all_alike : (r : Bool) → MatchBool r (AllWithin Same (range_with_len 0 16) 0 16) ((k : ℕ) × (k < 16) × HoldsAt Other (range_with_len 0 16) k) → Decides r (AlikeAt h f g)
+  all_alike true a = (
+    λ e s o. ⊎_elim
+        (λ (k : s < 16). (subst Same (nth_number s k) (a s 0 (omega arith) k)).0 o)
+        (λ (k : 16 ≤ s). (a 0 0 (omega arith) (omega arith)).1 s k)
+        (cases_lt s 16),
+    λ x. refl,
+  )
+  all_alike false d = (λ e. absurd (true≢false (sym e)), λ x. absurd (subst Other (nth_number d.0 d.1) (d.2 0) (x d.0)))
+
 -- a number below 16 is a site's
 below_is : (n : ℕ) → n < 16 → below 16 n ≡ Some n
 below_is n l = ap (λ b. cond b (Some n) None) (lt-ltb n 16 l)
@@ -54,4 +77,4 @@ pub stores_beyond : (x y : Stores) (s : ℕ) → 16 ≤ s → stores_of x s ≡ 
 stores_beyond x y s l = past x ∙ sym (past y)
   where
     past : (z : Stores) → stores_of z s ≡ []
-    past z = ap (λ n. take n (drop (s * 4096) (vec_items z.bytes))) (get_or_past z.lens s 0 (omega (arith, z.all)))
+    past z = get_or_past (map text_of (vec_items z.texts)) s [] (omega (arith, length-map (vec_items z.texts) text_of, z.all, z.texts.ok.0))

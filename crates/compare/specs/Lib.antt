@@ -1,4 +1,3 @@
 pub mod Alike
 pub mod Answers
-pub mod Whose
 pub mod Sent

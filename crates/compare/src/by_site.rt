@@ -29,7 +29,7 @@ impl BySite for Tokens {
     ghost values = { tokens_of };
 
     fn same_at(&self, other: &Tokens, site: SiteNumber) -> bool {
-        self.same(other, site)
+        self.same_for(other, site)
     }
 }
 
@@ -39,7 +39,7 @@ impl BySite for Stores {
     ghost values = { stores_of };
 
     fn same_at(&self, other: &Stores, site: SiteNumber) -> bool {
-        self.same(other, site)
+        self.same_for(other, site)
     }
 }
 
@@ -47,9 +47,10 @@ impl BySite for Stores {
 pub(crate) fn first_apart<T: BySite>(one: &T, two: &T, but: SiteNumber) -> Option<SiteNumber>
     ensures { SiteFound (only (number_of but)) (T.BySite.values one.now) (T.BySite.values two.now) (option_map number_of result) }
 {
+    // By a loop: a site is made of each number first, and of find_map the library's lemmas say nothing.
     for n in 0..16u32 {
         if let Some(site) = SiteNumber::new(n) {
-            if !one.same_at(two, site) && !site.same(but) {
+            if !one.same_at(two, site) && site != but {
                 return Some(site);
             }
         }

@@ -13,29 +13,19 @@ use windows::Window;
 fn alike_windows(one: &Window, two: &Window, but: SiteNumber) -> bool
     ensures { Decides result (AlikeWindows (only (number_of but)) (window_of one.now ∷ []) (window_of two.now ∷ [])) }
 {
-    if !one.site().same(two.site()) {
-        return false;
-    }
-    if one.site().same(but) {
-        return true;
-    }
-    one.same(two)
+    one.site() == two.site() && (one.site() == but || *one == *two)
 }
 
 // The number of the first window that differs, or that one of them lacks.
 pub(crate) fn first_window(one: &[Window], two: &[Window], but: SiteNumber) -> Option<usize>
     ensures { WindowFound (only (number_of but)) (map window_of one.now) (map window_of two.now) result }
 {
-    for (i, window) in one.iter().enumerate() {
-        if i >= two.len() {
-            return Some(i);
-        }
-        if !alike_windows(window, &two[i], but) {
-            return Some(i);
-        }
+    let mut pairs = one.iter().zip(two);
+    if let Some(place) = pairs.position(|(x, y)| !alike_windows(x, y, but)) {
+        return Some(place);
     }
-    if one.len() < two.len() {
-        return Some(one.len());
+    if one.len() != two.len() {
+        return Some(one.len().min(two.len()));
     }
     None
 }

@@ -10,10 +10,7 @@ use bounded::site::SiteNumber;
 fn other_site(site: Option<u8>, but: SiteNumber) -> Option<u8>
     ensures { result ≡ outside (only (number_of but)) site }
 {
-    match site {
-        Some(n) if n != but.number() => Some(n),
-        _ => None,
-    }
+    site.filter(|n| *n != but.number())
 }
 
 // Is the same sent to other sites' servers: nothing, or to the same one the same bytes?
@@ -26,9 +23,7 @@ pub fn same_requests(
 ) -> bool
     ensures { Decides result (sent_to_others (only (number_of but)) one bytes.now ≡ sent_to_others (only (number_of but)) two others.now) }
 {
-    match (other_site(one, but), other_site(two, but)) {
-        (Some(a), Some(b)) => a == b && bytes == others,
-        (None, None) => true,
-        _ => false,
-    }
+    let one = other_site(one, but).map(|n| (n, bytes));
+    let two = other_site(two, but).map(|n| (n, others));
+    one == two
 }

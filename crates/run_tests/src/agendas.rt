@@ -21,10 +21,7 @@ fn window_of(record: &Record) -> u32 {
 
 // The number of the site, and 99 where there is no such window.
 fn site_of(record: &Record) -> u8 {
-    match record.site {
-        Some(site) => site.number(),
-        None => 99,
-    }
+    record.site.map_or(99, |site| site.number())
 }
 
 // Runs these settings over servers that answer nothing.
@@ -47,11 +44,9 @@ fn holds(rt: &impl Abort, book: &MemoryBook, windows: &[u32], sites: &[u8]) -> R
     let records = book.records();
     assert_eq!(rt; records.len(), windows.len());
     assert_eq!(rt; records.len(), sites.len());
-    for (i, record) in records.iter().enumerate() {
-        if i < windows.len() && i < sites.len() {
-            assert_eq!(rt; window_of(record), windows[i]);
-            assert_eq!(rt; site_of(record), sites[i]);
-        }
+    for ((record, window), site) in records.iter().zip(windows).zip(sites) {
+        assert_eq!(rt; window_of(record), *window);
+        assert_eq!(rt; site_of(record), *site);
     }
     Ok(())
 }

@@ -1,5 +1,6 @@
 -- A request in the room that it was written to.
 use Rattle.std.proofs.Common.{◌≡◌, ℕ, ◌≤◌, Bool, true, false, cond, leb, [], ◌++◌, length, take, drop, Some, None, Option, sym, refl, ap, ◌∙◌, subst, arith, length-append}
+use Rattle.std.specs.Option.{unwrap_or}
 use lib.Seq.{take-append_seam}
 use Rattle.octets.proofs.Options.{none-some, some_same}
 use Rattle.requests.specs.Written.{request_text, can_write}
@@ -39,10 +40,16 @@ module _ (table : SiteTable) (q : Request) (room : Bytes) where
   none_by true false e h = ap (λ z. cond z text []) (sym e)
   none_by false f e h = nothing (leb 0 (length room))
 
-pub sent-some : (table : SiteTable) (q : Option Request) (room : Bytes) (n : ℕ) → Some n ≡ request_count table q room → AtFront n (request_written table q room) (sent (length room) table q)
+sent-some : (table : SiteTable) (q : Option Request) (room : Bytes) (n : ℕ) → Some n ≡ request_count table q room → AtFront n (request_written table q room) (sent (length room) table q)
 sent-some table None room n h = absurd (none-some n (sym h))
 sent-some table (Some q) room n h = some_by table q room (can_write (asking_of table q)) (leb (length (request_text (asking_of table q))) (length room)) n refl (sym h)
 
-pub sent-none : (table : SiteTable) (q : Option Request) (room : Bytes) → None ≡ request_count table q room → [] ≡ sent (length room) table q
+sent-none : (table : SiteTable) (q : Option Request) (room : Bytes) → None ≡ request_count table q room → [] ≡ sent (length room) table q
 sent-none table None room h = refl
 sent-none table (Some q) room h = none_by table q room (can_write (asking_of table q)) (leb (length (request_text (asking_of table q))) (length room)) refl (sym h)
+
+-- what was sent is at the front, if anything was
+pub sent_front : (table : SiteTable) (q : Option Request) (room after : Bytes) (o : Option ℕ) → o ≡ request_count table q room → after ≡ request_written table q room →
+    AtFront (unwrap_or o 0) after (sent (length room) table q)
+sent_front table q room after None h e = record { within = omega arith; bytes_so = sent-none table q room h }
+sent_front table q room after (Some n) h e = subst (λ z. AtFront n z (sent (length room) table q)) (sym e) (sent-some table q room n h)

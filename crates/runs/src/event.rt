@@ -31,12 +31,8 @@ fn site_of(browser: &Browser, event: &Event) -> Option<SiteNumber>
     match *event {
         Event::Opening { site, path: _ } => Some(site),
         Event::Turn { window } => {
-            let windows = browser.windows();
-            let i = window as usize;
-            if i >= windows.len() {
-                return None;
-            }
-            Some(windows[i].site())
+            let found = browser.windows().get(window as usize)?;
+            Some(found.site())
         }
     }
 }
@@ -60,10 +56,7 @@ fn send(pending: &Pending, room: &mut [u8]) -> usize
     ensures within { result ≤ length room.new }
     ensures bytes { take result room.new ≡ sent (length room.old) (sites_in pending.now.browser) (request_of pending.now) }
 {
-    match pending.request(room) {
-        Some(n) => n,
-        None => 0,
-    }
+    pending.request(room).unwrap_or(0)
 }
 
 // Asks a server, if one is to be asked. The answer is at the front of the room, so many bytes.
@@ -71,13 +64,15 @@ fn ask<C: Carrier>(pending: &Pending, carrier: &mut C, request: &[u8], answer: &
     ensures within { result ≤ length answer.new }
     ensures exchange { (room : ℕ) → request.now ≡ sent room (sites_in pending.now.browser) (request_of pending.now) → Exchanged (C.Carrier.carries (length answer.old)) room (sites_in pending.now.browser) (request_of pending.now) (take result answer.new) carrier.old carrier.new }
 {
+    // By a match: a closure would borrow the carrier and the room, to say the same.
     match pending.asks() {
         Some(site) => carrier.exchange(site, request, answer),
         None => 0,
     }
 }
 
-// An event happens: the request is at the front of its room.
+// An event happens: the request is at the front of its room. The rooms are lent one by one, since the contract is of what each
+// then holds.
 pub fn happen<C: Carrier>(
     browser: Browser,
     event: Event,

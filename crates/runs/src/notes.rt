@@ -14,7 +14,8 @@ pub trait Book {
         ensures { notes self.old (entry_of noted.now) self.new };
 }
 
-// A book in memory, for so many records. Whether one was missed for want of room is remembered.
+// A book in memory, for so many records. Whether one was missed for want of room is remembered: to note something answers
+// nothing, so that no run goes by it. The room stands beside the vector, whose capacity may be more than was asked for.
 #[derive(Drop)]
 pub struct MemoryBook {
     pub(crate) records: Vec<Record>,

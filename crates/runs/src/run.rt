@@ -34,6 +34,7 @@ pub fn run<C: Carrier, B: Book>(
 ) -> Browser
     ensures { Ran (C.Carrier.carries (length answer.old)) C.Carrier.broken B.Book.notes (length request.old) (sites_in browser) (record { part = part_of browser; agenda = agenda_of agenda.entry; carrier = carrier.old; book = book.old }) (part_of result) carrier.new book.new }
 {
+    // No iterator: what is next goes by how many windows there are then.
     while !carrier.is_broken() {
         let windows = browser.windows().len() as u32;
         let Some(event) = agenda.next(windows) else {

@@ -17,28 +17,34 @@ use compare::world::same_servers;
 use runs::event::Happened;
 use servers::Servers;
 
+// One side after an event: what happened, the bytes of the request, and the servers.
+#[derive(Drop)]
+pub(crate) struct Side<'a, S> {
+    pub(crate) happened: &'a Happened,
+    pub(crate) sent: &'a [u8],
+    pub(crate) servers: &'a S,
+}
+
 // The first place where something of another site differs.
 pub(crate) fn find_leak<S: Servers>(
-    a: &Happened,
-    sent: &[u8],
-    first: &S,
-    b: &Happened,
-    other: &[u8],
-    second: &S,
+    a: &Side<'_, S>,
+    b: &Side<'_, S>,
     but: SiteNumber,
 ) -> Option<Place>
-    ensures { Decides (not (is_some result)) (NoLeak (only (number_of but)) (world (part_of a.now.browser) (S.Servers.states first.now)) (world (part_of b.now.browser) (S.Servers.states second.now)) (entry_of a.now.«record»).outs (entry_of b.now.«record»).outs (sent_to_others (only (number_of but)) a.now.asked sent.now) (sent_to_others (only (number_of but)) b.now.asked other.now)) }
+    ensures { Decides (not (is_some result)) (NoLeak (only (number_of but)) (world (part_of a.now.happened.now.browser) (S.Servers.states a.now.servers.now)) (world (part_of b.now.happened.now.browser) (S.Servers.states b.now.servers.now)) (entry_of a.now.happened.now.«record»).outs (entry_of b.now.happened.now.«record»).outs (sent_to_others (only (number_of but)) a.now.happened.now.asked a.now.sent.now) (sent_to_others (only (number_of but)) b.now.happened.now.asked b.now.sent.now)) }
 {
-    if let Some(difference) = find_difference(&a.browser, &b.browser, but) {
+    let one = a.happened;
+    let two = b.happened;
+    if let Some(difference) = find_difference(&one.browser, &two.browser, but) {
         return Some(Place::Browsers(difference));
     }
-    if !same_servers(first, second, but) {
+    if !same_servers(a.servers, b.servers, but) {
         return Some(Place::Servers);
     }
-    if !same_by_others(&a.record, &b.record, but) {
+    if !same_by_others(&one.record, &two.record, but) {
         return Some(Place::LetOut);
     }
-    if !same_requests(a.asked, sent, b.asked, other, but) {
+    if !same_requests(one.asked, a.sent, two.asked, b.sent, but) {
         return Some(Place::Requests);
     }
     None

@@ -10,7 +10,7 @@ ghost use Rattle.plans.specs.Agendas.{agenda_of};
 ghost use Rattle.runs.specs.Exact.{sites_with, beginning};
 ghost use Rattle.side_by_side.specs.Verdicts.{Truly};
 
-use crate::leak::find_leak;
+use crate::leak::{Side, find_leak};
 use crate::verdict::Verdict;
 use bounded::site::SiteNumber;
 use browser::browser::Browser;
@@ -40,6 +40,7 @@ fn follow<S: Servers + Drop>(
 {
     let mut sent = [0u8; 4096];
     let mut other = [0u8; 4096];
+    // Counted by hand: the agenda is no iterator, since what is next goes by how many windows there are then.
     let mut event = 0u64;
     while let Some(due) = agenda.next(one.windows().len() as u32) {
         let a = happen(one, due, &mut first, &mut sent, answer);
@@ -47,15 +48,17 @@ fn follow<S: Servers + Drop>(
         if !same_let_out(&a.record, &b.record, site) {
             return Verdict::LetOut { event };
         }
-        if let Some(place) = find_leak(
-            &a,
-            &sent[..a.sent],
-            &first.servers,
-            &b,
-            &other[..b.sent],
-            &second.servers,
-            site,
-        ) {
+        let left = Side {
+            happened: &a,
+            sent: &sent[..a.sent],
+            servers: &first.servers,
+        };
+        let right = Side {
+            happened: &b,
+            sent: &other[..b.sent],
+            servers: &second.servers,
+        };
+        if let Some(place) = find_leak(&left, &right, site) {
             return Verdict::Leak { event, place };
         }
         one = a.browser;

@@ -3,8 +3,8 @@ use Rattle.compare.proofs.Picked.{keep_both}
 use Rattle.compare.proofs.let_out.same_outs.Goals as goal
 
 pub returns : goal.returns
-returns c =
+returns g c = λ f h.
     decides_by _ _ _ _ _
-    (keep_both _ _ _ _ _ c.pick.ensures c.pick-2.ensures)
-    (keep_both _ _ _ _ _ c.pick-3.ensures c.pick-4.ensures)
+    (keep_both f _ _ _ _ (c.pick.ensures f h) (c.pick-2.ensures f h))
+    (keep_both f _ _ _ _ (c.pick-3.ensures f h) (c.pick-4.ensures f h))
     c.same_lists.ensures

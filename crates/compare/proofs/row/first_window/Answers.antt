@@ -1,37 +1,31 @@
-use Rattle.std.proofs.Common.{◌≡◌, map, length, refl, subst, arith}
-use mathlib.Core.Bool.{false≢true}
+use Rattle.std.proofs.Common.{◌≡◌, rules, tests, arith}
+use Rattle.std.proofs.lemmas.Iterator.{IsFirst-from_position, YieldsList-from_slice, YieldsList-from_zip}
 use Rattle.bounded.specs.Numbers.{number_of}
 use Rattle.pages.specs.Promise.{only}
 use Rattle.windows.specs.Windows.{window_of}
-use Rattle.compare.specs.Answers.{ApartFrom}
-use Rattle.compare.proofs.Rows.{front-none, front-more, front-all, front_apart, front_lacks}
+use Rattle.compare.proofs.Rows.{Both, first_apart, lacks, none_apart}
 use Rattle.compare.proofs.row.first_window.Goals as goal
 
-pub loop-i-init : goal.loop-i-init
-loop-i-init c = front-none _ window_of c.args.one.now c.args.two.now
-
-pub returns-then-i-two : goal.returns-then-i-two
-returns-then-i-two c = front_lacks _ window_of c.args.one.now c.args.two.now c.loop-i.i (λ e. omega arith) c.loop-i.invariant
-
-pub returns-then-not-alike_windows : goal.returns-then-not-alike_windows
-returns-then-not-alike_windows c =
-    front_apart _ window_of c.args.one.now c.args.two.now c.loop-i.i _ _
-    (omega arith) (omega arith) c.index-one-i.is c.index-two-i.is
-    (λ a. false≢true (c.if-not-alike_windows.ensures.1 a))
-    c.loop-i.invariant
-
-pub loop-i-preserved : goal.loop-i-preserved
-loop-i-preserved c =
-    front-more _ window_of c.args.one.now c.args.two.now c.loop-i.i _ _
-    (omega arith) (omega arith) c.index-one-i.is c.index-two-i.is
-    (c.if-not-alike_windows.ensures.0 refl)
-    c.loop-i.invariant
+pub returns-in-Some : goal.returns-in-Some
+returns-in-Some c =
+    let h = only (number_of c.args.but) in
+    let xs = c.args.one.now in
+    let ys = c.args.two.now in
+    let first = IsFirst-from_position c.position.new.self _ _ (λ p. Both h window_of xs ys p → ⊥) (Both h window_of xs ys) c.in-Some.ensures.ran (YieldsList-from_zip (YieldsList-from_slice xs cc) (YieldsList-from_slice ys cc)) (λ x q k. search (rules, tests)) (λ x q k. search (rules, tests)) in
+    first_apart h window_of xs ys _ first.0 first.1 first.2
 
 pub returns-then-one-two : goal.returns-then-one-two
 returns-then-one-two c =
-    let all : c.loop-i.i ≡ length c.args.one.now = omega arith in
-    subst (λ n. ApartFrom (only (number_of c.args.but)) (map window_of c.args.one.now) (map window_of c.args.two.now) n) all
-    (front_lacks _ window_of c.args.one.now c.args.two.now c.loop-i.i (λ e. omega arith) c.loop-i.invariant)
+    let h = only (number_of c.args.but) in
+    let xs = c.args.one.now in
+    let ys = c.args.two.now in
+    let all = IsFirst-from_position c.position.new.self _ _ (λ p. Both h window_of xs ys p → ⊥) (Both h window_of xs ys) c.in_default.ensures.ran (YieldsList-from_zip (YieldsList-from_slice xs cc) (YieldsList-from_slice ys cc)) (λ x q k. search (rules, tests)) (λ x q k. search (rules, tests)) in
+    lacks h window_of xs ys c.min.result c.min.ensures (λ e. omega arith) all
 
 pub returns : goal.returns
-returns c = front-all _ window_of c.args.one.now c.args.two.now c.loop-i.i (omega arith) (omega arith) c.loop-i.invariant
+returns c =
+    let h = only (number_of c.args.but) in
+    let xs = c.args.one.now in
+    let ys = c.args.two.now in
+    let all = IsFirst-from_position c.position.new.self _ _ (λ p. Both h window_of xs ys p → ⊥) (Both h window_of xs ys) c.in_default.ensures.ran (YieldsList-from_zip (YieldsList-from_slice xs cc) (YieldsList-from_slice ys cc)) (λ x q k. search (rules, tests)) (λ x q k. search (rules, tests)) in
+    none_apart h window_of xs ys (omega arith) all

@@ -2,4 +2,4 @@ use Rattle.compare.proofs.Sites.{stores_beyond}
 use Rattle.compare.proofs.by_site.StoresBySite.same_at.Goals as goal
 
 pub returns : goal.returns
-returns c = record { value = c.same.ensures; beyond = stores_beyond c.args.self.now c.args.other.now }
+returns c = record { value = c.same_for.ensures; beyond = stores_beyond c.args.self.now c.args.other.now }
