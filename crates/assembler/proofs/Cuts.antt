@@ -1,5 +1,5 @@
 -- A text cut line by line.
-use Rattle.std.proofs.Common.{◌≡◌, ℕ, suc, ◌+◌, ◌<◌, false, eqb, List, [], ◌∷◌, length, take, drop, sym, refl, ap, ◌∙◌, ⊎_elim, one-add, arith, length-drop}
+use Rattle.std.proofs.Common.{◌≡◌, ℕ, suc, ◌+◌, ◌<◌, false, eqb, List, [], ◌∷◌, length, take, drop, sym, refl, ap, ◌∙◌, ⊎_elim, one-add, arith}
 use Rattle.std.specs.List.{prefix_len}
 use Rattle.std.proofs.lemmas.Bool.{cond-true, cond-false, cases_Bool, not-true, not-false, eqb-false}
 use Rattle.octets.specs.declared.Class.TheVariants.{Line}
@@ -27,18 +27,12 @@ lines_cut (b ∷ s) d t e =
     cond-true _ _ _ (not-false (eqb b 10) y) ∙ sym (λ i. take (n i) (b ∷ s) ∷ lines (drop 1 (drop (n i) (b ∷ s)))))
     (cases_Bool (has Line b))
 
--- the same of a text with some bytes, and what is left is shorter
-pub cut_lines : (s line rest : List ℕ) → 0 < length s → line ≡ front (has Line) s → rest ≡ rest_of s → (lines s ≡ line ∷ lines rest) × (length rest < length s)
-cut_lines [] line rest h e f = absurd (omega arith)
-cut_lines (b ∷ s) line rest h e f = (
-  lines_cut (b ∷ s) b s refl ∙ sym (λ i. e i ∷ lines (f i)),
-  omega (arith, ap length f, length-drop 1 (past (has Line) (b ∷ s)), length-drop (prefix_len (has Line) (b ∷ s)) (b ∷ s)),
-)
+-- the same, by what stands behind the first line
+pub cut_lines : (s line end rest : List ℕ) → eqb (length s) 0 ≡ false → line ≡ front (has Line) s → end ≡ past (has Line) s → rest ≡ drop 1 end → lines s ≡ line ∷ lines rest
+cut_lines [] line end rest t e f g = absurd (omega (arith, eqb-false 0 0 t))
+cut_lines (b ∷ s) line end rest t e f g = lines_cut (b ∷ s) b s refl ∙ sym (λ i. e i ∷ lines ((g ∙ ap (drop 1) f) i))
 
-pub no_lines : (s : List ℕ) → length s ≡ 0 → lines s ≡ []
-no_lines [] e = refl
-no_lines (b ∷ s) e = absurd (omega arith)
-
--- the same of a test that the text is not empty
-pub cut_more : (s line rest : List ℕ) → eqb (length s) 0 ≡ false → line ≡ front (has Line) s → rest ≡ rest_of s → (lines s ≡ line ∷ lines rest) × (length rest < length s)
-cut_more s line rest t e f = let h = eqb-false (length s) 0 t in cut_lines s line rest (omega arith) e f
+-- nothing stands behind a text without bytes
+pub none_behind : (end : List ℕ) → length end < 1 → end ≡ drop 1 end
+none_behind [] h = refl
+none_behind (b ∷ end) h = absurd (omega arith)

@@ -1,5 +1,6 @@
 -- The lines of a text, and where its labels are.
 use Rattle.std.specs.Prelude.{ℕ, ◌+◌, ◌*◌, Bool, false, cond, List, [], ◌∷◌, length, Some, None, Ok, Err, Option, Result, ◌==◌, nat_le}
+use Rattle.std.specs.Borrow.{Bor}
 use Rattle.std.specs.Str.{bytes_eq}
 use Rattle.script_lines.specs.declared.Fault.{Fault}
 use Rattle.script_lines.specs.Reading.{Meaning, nothing, label, step, jump, bytes, line_in}
@@ -13,6 +14,11 @@ grown b (l ∷ ls) = (b ∷ l) ∷ ls
 abbrev pub lines : List ℕ → List (List ℕ)
 lines [] = []
 lines (b ∷ bs) = cond (b == 10) ([] ∷ lines bs) (grown b (lines bs))
+
+-- the lines of a text, by its first line and what follows
+abbrev pub lines_by : Option (Bor (List ℕ) × Bor (List ℕ)) → List (List ℕ)
+lines_by None = []
+lines_by (Some p) = p.0.now ∷ lines p.1.now
 
 -- a number of steps, counted up to 2,001: a script of more than 2,000 is refused
 abbrev pub counted : ℕ → ℕ

@@ -1,39 +1,31 @@
 // Lines, and where labels are. A label is looked for from the start of the text on: there is no table to fill.
-ghost use Rattle.std.specs.Prelude.{◌≡◌, ◌≤◌, drop, IfSome};
-ghost use Rattle.std.specs.Str.{bytes_eq};
-ghost use Rattle.octets.specs.declared.Class.TheVariants as class;
-ghost use Rattle.octets.specs.Classes.{has};
-ghost use Rattle.octets.specs.Fronts.{front, past};
+ghost use Rattle.std.specs.Prelude.{◌≡◌, ◌<◌, ◌≤◌, length, IfSome};
 ghost use Rattle.script_lines.specs.Reading.{meaning_of, line_in};
-ghost use Rattle.assembler.specs.Texts.{counted, steps_after, past_line, label_in};
+ghost use Rattle.assembler.specs.Texts.{lines, lines_by, counted, steps_after, past_line, label_in};
 
 use octets::{Class, split};
 use script_lines::{Line, read_line};
 
-// The first line without its line feed, and what follows.
-pub(crate) fn cut(s: &[u8]) -> (&[u8], &[u8])
-    ensures line { result.0.now ≡ front (has class.Line) s.now }
-    ensures rest { result.1.now ≡ drop 1 (past (has class.Line) s.now) }
+// The first line without its line feed, and what follows; none where the text has ended. By hand: a text split at its
+// line feeds has an empty line more behind the last one.
+pub(crate) fn next_line(s: &[u8]) -> Option<(&[u8], &[u8])>
+    ensures lines { lines s.now ≡ lines_by result }
+    ensures shorter { IfSome result (λ p. length p.1.now < length s.now) }
 {
-    let (line, end) = split(Class::Line, s);
-    if end.is_empty() {
-        return (line, end);
+    if s.is_empty() {
+        return None;
     }
-    let (_, rest) = end.split_at(1);
-    (line, rest)
-}
-
-fn is_same(a: &[u8], b: &[u8]) -> bool
-    ensures { result ≡ bytes_eq a.now b.now }
-{
-    a == b
+    match split(Class::Line, s) {
+        (line, [_, rest @ ..]) => Some((line, rest)),
+        (line, end) => Some((line, end)),
+    }
 }
 
 fn count_to(n: usize) -> usize
     ensures is { result ≡ counted n }
     ensures within { result ≤ 2001 }
 {
-    if n <= 2000 { n } else { 2001 }
+    n.min(2001)
 }
 
 // How many steps there are after those that a line stands for.
@@ -45,13 +37,7 @@ fn steps_after(at: usize, line: Line<'_>) -> usize
     match line {
         Line::Nothing | Line::Label(_) => at,
         Line::Step(_) | Line::Jump(_, _, _) => count_to(at + 1),
-        Line::Bytes(d) => {
-            let n = d.count();
-            if n > 2000 {
-                return 2001;
-            }
-            count_to(at + 3 * n)
-        }
+        Line::Bytes(d) => count_to(d.count().saturating_mul(3).saturating_add(at)),
     }
 }
 
@@ -61,15 +47,11 @@ fn past_line(name: &[u8], at: usize, line: &[u8]) -> Option<usize>
     ensures is { result ≡ past_line name.now at (line_in line.now) }
     ensures within { IfSome result (λ n. n ≤ 2001) }
 {
-    let Ok(read) = read_line(line) else {
-        return Some(at);
-    };
-    if let Line::Label(other) = read {
-        if is_same(name, other) {
-            return None;
-        }
+    match read_line(line) {
+        Err(_) => Some(at),
+        Ok(Line::Label(other)) if name == other => None,
+        Ok(read) => Some(steps_after(at, read)),
     }
-    Some(steps_after(at, read))
 }
 
 // The first label of a name: how many lines and how many steps are before it.
@@ -78,10 +60,10 @@ pub(crate) fn find_label(name: &[u8], text: &[u8]) -> Option<(usize, usize)>
     ensures within { IfSome result (λ p. p.1 ≤ 2001) }
 {
     let mut rest = text;
+    // Counted beside the cursor: `next_line` is no iterator, which could number its lines.
     let mut line = 0;
     let mut at = 0;
-    while !rest.is_empty() {
-        let (first, next) = cut(rest);
+    while let Some((first, next)) = next_line(rest) {
         let Some(more) = past_line(name, at, first) else {
             return Some((line, at));
         };

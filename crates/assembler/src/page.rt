@@ -1,27 +1,16 @@
 // Page files from a text, line by line.
 ghost use Rattle.std.specs.Prelude.{◌≡◌, ◌+◌, ◌^◌, ◌<◌, ◌≤◌, [], length, take, IfOk};
 ghost use Rattle.scripts.specs.Page.{head_of};
-ghost use Rattle.script_lines.specs.Operands.{fault_at};
 ghost use Rattle.script_lines.specs.Reading.{data_of};
 ghost use Rattle.assembler.specs.Texts.{lines};
-ghost use Rattle.assembler.specs.Assembled.{row_bytes, byte_rows, data_rows, added, is_first, with_line, refusal_at, lines_from, assembled, front_of, size_in, buffer_after};
+ghost use Rattle.assembler.specs.Assembled.{row_bytes, byte_rows, data_rows, added, with_line, refusal_at, lines_from, assembled, front_of, size_in, buffer_after};
 
 use crate::Refusal;
-use crate::labels::{cut, find_label};
+use crate::labels::{find_label, next_line};
 use octets::pieces::{put_all, put_from};
-use octets::{Class, split};
-use script_lines::{Data, Expected, Fault, Line, Row, read_line};
+use script_lines::{Data, Expected, Fault, Line, Row, fault_at, read_line};
 
-fn fault_at(line: &[u8], expected: Expected) -> Fault
-    ensures { result ≡ fault_at line.now expected }
-{
-    let (_, t) = split(Class::Blank, line);
-    Fault {
-        left: t.len(),
-        expected,
-    }
-}
-
+// Once more here: `scripts` writes steps, and a row may be none of them.
 fn row_bytes(row: Row) -> [u8; 8]
     ensures { result ≡ row_bytes row }
 {
@@ -40,7 +29,8 @@ fn byte_rows(place: u32, x: u8, y: u8, b: u8) -> [u8; 24]
     ]
 }
 
-// Adds steps to the first bytes of the body. What is refused may be written in part.
+// Adds steps to the first bytes of the body. What is refused may be written in part. Body and place are no struct of their
+// own: it would be a lent buffer with a length beside it.
 fn put(body: &mut [u8], at: usize, line: &[u8], steps: &[u8]) -> Result<usize, Fault>
     requires { (length body.old ≡ 16000) × (at ≤ 16000) }
     ensures is { front_of result body.new ≡ added (take at body.old) line.now steps.now }
@@ -59,21 +49,13 @@ fn put_data(body: &mut [u8], from: usize, line: &[u8], d: Data<'_>) -> Result<us
     ensures within { IfOk result (λ n. n ≤ 16000) }
 {
     let mut at = from;
+    // By number: it is where the byte goes in the memory too, and bytes come from a text or from digits.
     for i in 0..d.count() {
         let place = d.place.wrapping_add(i as u32);
         let rows = byte_rows(place, d.x, d.y, d.byte(i));
         at = put(body, at, line, &rows)?;
     }
     Ok(at)
-}
-
-fn is_first(k: usize, found: Option<(usize, usize)>) -> bool
-    ensures { result ≡ is_first k found }
-{
-    match found {
-        Some((line, _)) => line == k,
-        None => false,
-    }
 }
 
 // Adds the steps of a line, which stands after k others in the text.
@@ -85,19 +67,19 @@ fn put_line(text: &[u8], k: usize, line: &[u8], body: &mut [u8], at: usize) -> R
     match read_line(line)? {
         Line::Nothing => Ok(at),
         Line::Label(name) => {
-            if !is_first(k, find_label(name, text)) {
-                return Err(fault_at(line, Expected::NewLabel));
+            if find_label(name, text).is_some_and(|(first, _)| first == k) {
+                Ok(at)
+            } else {
+                Err(fault_at(line, Expected::NewLabel))
             }
-            Ok(at)
         }
         Line::Step(row) => put(body, at, line, &row_bytes(row)),
         Line::Jump(row, name, left) => {
-            let Some((_, step)) = find_label(name, text) else {
-                return Err(Fault {
-                    left,
-                    expected: Expected::KnownLabel,
-                });
+            let unknown = Fault {
+                left,
+                expected: Expected::KnownLabel,
             };
+            let (_, step) = find_label(name, text).ok_or(unknown)?;
             let number = step as u32;
             put(body, at, line, &row_bytes(Row { number, ..row }))
         }
@@ -123,20 +105,18 @@ fn put_lines(text: &[u8], body: &mut [u8]) -> Result<usize, Refusal>
     ensures within { IfOk result (λ n. n ≤ 16000) }
 {
     let mut rest = text;
+    // Counted beside the cursor: `next_line` is no iterator, which could number its lines.
     let mut line = 0;
     let mut at = 0;
-    while !rest.is_empty() {
-        let (first, next) = cut(rest);
-        match put_line(text, line, first, body, at) {
-            Ok(n) => at = n,
-            Err(fault) => return Err(refusal_at(line, first, fault)),
-        }
+    while let Some((first, next)) = next_line(rest) {
+        at = put_line(text, line, first, body, at).map_err(|fault| refusal_at(line, first, fault))?;
         rest = next;
         line += 1;
     }
     Ok(at)
 }
 
+// Once more here: `scripts` has the same bytes to itself, as a part of writing a script.
 fn head_of(steps: usize) -> [u8; 8]
     requires { steps ≤ 2000 }
     ensures { result ≡ head_of steps }
@@ -151,6 +131,7 @@ pub fn assemble(text: &[u8], page: &mut [u8]) -> Result<Option<usize>, Refusal>
     ensures size { result ≡ size_in (assembled text.now) page.old }
     ensures bytes { page.new ≡ buffer_after (assembled text.now) page.old }
 {
+    // The steps wait here, since the number of all of them stands before them; no memory is claimed.
     let mut body = [0; 16000];
     let size = put_lines(text, &mut body)?;
     let head = head_of(size / 8);

@@ -1,32 +1,43 @@
 -- Lines written one after another.
-use Rattle.std.proofs.Common.{◌≡◌, ℕ, suc, ◌+◌, ◌-◌, ◌<◌, ◌≤◌, List, [], ◌∷◌, ◌++◌, length, take, drop, Some, None, sym, ap, ◌∙◌, append_assoc, arith}
-use Rattle.std.proofs.lemmas.Bool.{cond-true, le-leb}
+use Rattle.std.proofs.Common.{◌≡◌, ℕ, zero, suc, ◌+◌, ◌<◌, ◌≤◌, List, [], ◌∷◌, ◌++◌, length, leb, get_or, take, drop, Some, None, sym, refl, ap, ◌∙◌, append_assoc, arith, length-append}
+use Rattle.std.specs.List.{flat_map}
+use Rattle.std.specs.Simd.{first_chunks}
+use Rattle.std.proofs.lemmas.Bool.{cond-true, le-leb, leb-true}
+use Rattle.std.proofs.lemmas.List.{take_at, length-take-le, at_drop_more}
 use Rattle.octets.specs.Buffers.{written_from, count_from}
-use Rattle.octets.proofs.Options.{none-some}
-use Rattle.assembler.proofs.Rows.{put_text}
+use Rattle.octets.proofs.Options.{none-some, cond-some, some_same}
 use Rattle.script_lines.specs.declared.Row.{Row}
 use Rattle.disassembler.specs.Lines.{line_then, row_in}
-use Rattle.disassembler.specs.Texts.{rows_text}
+use Rattle.disassembler.specs.Texts.{row_line, rows_text}
 
-pub rows_next : (n : ℕ) (bs : List ℕ) → 0 < n → rows_text n bs ≡ line_then (row_in (take 8 bs)) (10 ∷ []) ++ rows_text (n - 1) (drop 8 bs)
-unfolding rows_text
-rows_next n bs h = let more : n ≡ suc (n - 1) = omega arith in ap (λ m. rows_text m bs) more
+-- a text that was written to a buffer from a place on
+put_text : (at n : ℕ) (out after t : List ℕ) → at ≤ length out → Some n ≡ count_from at t out → after ≡ written_from at t out → (take n after ≡ take at out ++ t) × (n ≡ at + length t) × (n ≤ length out)
+put_text at n out after t room p q =
+    let h = cond-some (leb (at + length t) (length out)) (Some (at + length t)) n (sym p) in
+    let n-is : n ≡ at + length t = sym (some_same _ _ h.1) in
+    let fits : at + length t ≤ length out = leb-true _ _ h.0 in
+    let done : length (take at out) ≡ at = length-take-le at out room in
+    let whole : length (take at out ++ t) ≡ n = omega (arith, length-append (take at out) t) in
+    let is : after ≡ (take at out ++ t) ++ drop (at + length t) out = q ∙ cond-true _ _ _ h.0 ∙ sym (append_assoc (take at out) t (drop (at + length t) out)) in
+    (ap (take n) is ∙ take_at (take at out ++ t) _ n whole, n-is, omega arith)
 
-pub rows_none : (n : ℕ) (bs : List ℕ) → n ≡ 0 → rows_text n bs ≡ []
+-- the lines of eight bytes after eight bytes
+pub rows_are : (n : ℕ) (bs : List ℕ) → flat_map row_line (first_chunks 8 n bs) ≡ rows_text n bs
 unfolding rows_text
-rows_none n bs e = ap (λ m. rows_text m bs) e
+rows_are zero bs = refl
+rows_are (suc n) bs = ap (λ t. row_line (take 8 bs) ++ t) (rows_are n (drop 8 bs))
 
 -- one line more
-pub rows_more : (n fewer at next : ℕ) (row : Row) (bs first rest out after text all : List ℕ) → fewer + 1 ≡ n → first ≡ take 8 bs → rest ≡ drop 8 bs → row ≡ row_in first → text ≡ line_then row (10 ∷ []) → at ≤ length out → Some next ≡ count_from at text out → after ≡ written_from at text out → all ≡ take at out ++ rows_text n bs → (all ≡ take next after ++ rows_text fewer rest) × (next ≡ at + length (line_then row (10 ∷ [])))
-rows_more n fewer at next row bs first rest out after text all e f g is spelled room p q was =
-    let h = put_text at next out after text room p q in
-    let less : n - 1 ≡ fewer = omega arith in
-    let line : text ≡ line_then (row_in (take 8 bs)) (10 ∷ []) = spelled ∙ ap (λ r. line_then r (10 ∷ [])) (is ∙ ap row_in f) in (
+pub rows_more : (rows : List (List ℕ)) (i at next : ℕ) (row : Row) (d out after text all : List ℕ) → i < length rows → row ≡ row_in (get_or rows i d) → text ≡ line_then row (10 ∷ []) → at ≤ length out → Some next ≡ count_from at text out → after ≡ written_from at text out → all ≡ take at out ++ flat_map row_line (drop i rows) → (all ≡ take next after ++ flat_map row_line (drop (i + 1) rows)) × (next ≡ at + length (line_then row (10 ∷ [])))
+rows_more rows i at next row d out after text all h is spelled room p q was =
+    let put = put_text at next out after text room p q in
+    let rest = flat_map row_line (drop (i + 1) rows) in
+    let line : text ≡ row_line (get_or rows i d) = spelled ∙ ap (λ r. line_then r (10 ∷ [])) is in (
       was
-          ∙ ap (λ t. take at out ++ t) (rows_next n bs (omega arith) ∙ (λ i. sym line i ++ rows_text (less i) (sym g i)))
-          ∙ sym (append_assoc (take at out) text (rows_text fewer rest))
-          ∙ ap (λ t. t ++ rows_text fewer rest) (sym h.0),
-      h.1 ∙ ap (λ t. at + length t) spelled,
+          ∙ ap (λ t. take at out ++ t) (at_drop_more (flat_map row_line) rows i d h ∙ ap (λ t. t ++ rest) (sym line))
+          ∙ sym (append_assoc (take at out) text rest)
+          ∙ ap (λ t. t ++ rest) (sym put.0),
+      put.1 ∙ ap (λ t. at + length t) spelled,
     )
 
 -- there is room for it

@@ -9,7 +9,6 @@ use Rattle.script_lines.specs.Forms.{form_of}
 use Rattle.script_lines.specs.Reading.{row_of}
 use Rattle.disassembler.specs.declared.lines.Shown.{Shown}
 use Rattle.disassembler.specs.declared.lines.Shown.TheVariants.{Nothing, Register, Number}
-use Rattle.disassembler.specs.declared.lines.Marks.{Marks}
 use Rattle.disassembler.specs.declared.lines.Parts.{Parts}
 
 -- the mnemonic of a wait, by its number; none for others
@@ -116,9 +115,3 @@ abbrev pub row_in : List ℕ → Row
 row_in bs =
     row_of (slice_index bs 0) (slice_index bs 1) (slice_index bs 2) (slice_index bs 3)
     (word (slice_index bs 4) (slice_index bs 5) (slice_index bs 6) (slice_index bs 7))
-
--- a word and five operands, each after its mark, and the end
-abbrev pub spelt : Marks → List ℕ → List ℕ → List ℕ → List ℕ → List ℕ → List ℕ → List ℕ
-spelt m name k a b c n =
-    name
-    ++ (m.kind.now ++ (k ++ (m.a.now ++ (a ++ (m.b.now ++ (b ++ (m.c.now ++ (c ++ (m.number.now ++ (n ++ (m.end.now ++ [])))))))))))

@@ -7,10 +7,14 @@ use Rattle.scripts.specs.Page.{page_in}
 use Rattle.assembler.specs.Assembled.{assembled}
 use Rattle.disassembler.specs.Lines.{line_then, row_in}
 
+-- the line of the step that eight bytes are
+abbrev pub row_line : List ℕ → List ℕ
+row_line bs = line_then (row_in bs) (10 ∷ [])
+
 -- the lines of so many steps of eight bytes
 unfoldable pub rows_text : ℕ → List ℕ → List ℕ
 rows_text zero bs = []
-rows_text (suc n) bs = line_then (row_in (take 8 bs)) (10 ∷ []) ++ rows_text n (drop 8 bs)
+rows_text (suc n) bs = row_line (take 8 bs) ++ rows_text n (drop 8 bs)
 
 -- the text of a page whose steps could be read
 abbrev pub text_by : Result (List Step) Unreadable → List ℕ → Result (List ℕ) Unreadable

@@ -1,7 +1,7 @@
 // The line of a step.
-ghost use Rattle.std.specs.Prelude.{◌≡◌, [], ◌∷◌, length, drop};
+ghost use Rattle.std.specs.Prelude.{◌≡◌, [], ◌∷◌, drop};
 ghost use Rattle.octets.specs.Buffers.{written_from, count_from};
-ghost use Rattle.disassembler.specs.Lines.{call_name, name_by, name_of, mark_of, digits_of, parts_then, slot, slot_fits, tail_shown, tail_fits, fits, plain_then, raw_then, line_then, row_in, spelt};
+ghost use Rattle.disassembler.specs.Lines.{call_name, name_by, name_of, mark_of, digits_of, parts_then, slot, slot_fits, tail_shown, tail_fits, fits, plain_then, raw_then, line_then, row_in};
 
 use octets::pieces::put_from;
 use octets::small::SmallText;
@@ -26,17 +26,7 @@ pub(crate) struct Parts {
     number: Shown,
 }
 
-// What stands before the digits of each operand, and after the line.
-#[derive(Clone, Copy)]
-struct Marks<'a> {
-    kind: &'a [u8],
-    a: &'a [u8],
-    b: &'a [u8],
-    c: &'a [u8],
-    number: &'a [u8],
-    end: &'a [u8],
-}
-
+// By its number, as it stands in the page file.
 fn call_name(number: u32) -> &'static [u8]
     ensures { result.now ≡ call_name number }
 {
@@ -51,6 +41,7 @@ fn call_name(number: u32) -> &'static [u8]
     }
 }
 
+// By the bytes of the page file: a step may also be one that has no mnemonic.
 fn name_by(kind: u8, number: u32) -> &'static [u8]
     ensures { result.now ≡ name_by kind number }
 {
@@ -70,7 +61,9 @@ fn name_by(kind: u8, number: u32) -> &'static [u8]
     }
 }
 
-// The mnemonic of the step, if there is one.
+// The mnemonic of the step, if there is one. It stands here once more, the other way round than for reading: that both say
+// the same is what proves that a text is assembled back.
+#[tactic(auto, unfolding(crate::specs::Lines::name_of))]
 fn name_of(row: Row) -> &'static [u8]
     ensures { result.now ≡ name_of row }
 {
@@ -92,8 +85,8 @@ fn digits(shown: Shown) -> SmallText
 {
     match shown {
         Shown::Nothing => SmallText::empty(),
-        Shown::Register(n) => SmallText::decimal(n as u64),
-        Shown::Number(n) => SmallText::decimal(n as u64),
+        Shown::Register(n) => SmallText::decimal(u64::from(n)),
+        Shown::Number(n) => SmallText::decimal(u64::from(n)),
     }
 }
 
@@ -160,89 +153,37 @@ fn raw(row: Row) -> Parts
 {
     Parts {
         word: b"step",
-        kind: Shown::Number(row.kind as u32),
-        a: Shown::Number(row.a as u32),
-        b: Shown::Number(row.b as u32),
-        c: Shown::Number(row.c as u32),
+        kind: Shown::Number(u32::from(row.kind)),
+        a: Shown::Number(u32::from(row.a)),
+        b: Shown::Number(u32::from(row.b)),
+        c: Shown::Number(u32::from(row.c)),
         number: Shown::Number(row.number),
     }
 }
 
+#[tactic(auto, unfolding(crate::specs::Lines::line_then))]
 pub(crate) fn parts_of(row: Row) -> Parts
     ensures { parts_then result (10 ∷ []) ≡ line_then row (10 ∷ []) }
 {
     let word = name_of(row);
-    let Some(form) = form_of(word) else {
-        return raw(row);
-    };
-    if fits(form, row) {
-        plain(word, form, row)
-    } else {
-        raw(row)
+    match form_of(word) {
+        Some(form) if fits(form, row) => plain(word, form, row),
+        _ => raw(row),
     }
 }
 
 // The step that eight bytes are.
-pub(crate) fn row_in(bytes: &[u8]) -> Row
-    requires { length bytes.now ≡ 8 }
+pub(crate) fn row_in(bytes: &[u8; 8]) -> Row
     ensures { result ≡ row_in bytes.now }
 {
+    let [kind, a, b, c, w, x, y, z] = *bytes;
     Row {
-        kind: bytes[0],
-        a: bytes[1],
-        b: bytes[2],
-        c: bytes[3],
-        number: u32::from_be_bytes([bytes[4], bytes[5], bytes[6], bytes[7]]),
+        kind,
+        a,
+        b,
+        c,
+        number: u32::from_be_bytes([w, x, y, z]),
     }
-}
-
-fn marks_of(parts: Parts) -> Marks<'static>
-    ensures is { (result.kind.now ≡ mark_of parts.kind) × (result.a.now ≡ mark_of parts.a) × (result.b.now ≡ mark_of parts.b) }
-    ensures ends { (result.c.now ≡ mark_of parts.c) × (result.number.now ≡ mark_of parts.number) × (result.end.now ≡ 10 ∷ []) }
-{
-    Marks {
-        kind: mark(parts.kind),
-        a: mark(parts.a),
-        b: mark(parts.b),
-        c: mark(parts.c),
-        number: mark(parts.number),
-        end: b"\n",
-    }
-}
-
-// Writes all pieces of a line, lent for as long as the shortest of them.
-fn put_pieces<'a>(
-    out: &mut [u8],
-    from: usize,
-    marks: Marks<'a>,
-    word: &'a [u8],
-    kind: &'a [u8],
-    a: &'a [u8],
-    b: &'a [u8],
-    c: &'a [u8],
-    number: &'a [u8],
-) -> Option<usize>
-    ensures answer { result ≡ count_from from (spelt marks.entry word.now kind.now a.now b.now c.now number.now) out.old }
-    ensures after { out.new ≡ written_from from (spelt marks.entry word.now kind.now a.now b.now c.now number.now) out.old }
-{
-    put_from(
-        out,
-        from,
-        &[
-            word,
-            marks.kind,
-            kind,
-            marks.a,
-            a,
-            marks.b,
-            b,
-            marks.c,
-            c,
-            marks.number,
-            number,
-            marks.end,
-        ],
-    )
 }
 
 impl Parts {
@@ -256,16 +197,23 @@ impl Parts {
         let b = digits(self.b);
         let c = digits(self.c);
         let number = digits(self.number);
-        put_pieces(
+        put_from(
             out,
             from,
-            marks_of(self),
-            self.word,
-            kind.as_bytes(),
-            a.as_bytes(),
-            b.as_bytes(),
-            c.as_bytes(),
-            number.as_bytes(),
+            &[
+                self.word,
+                mark(self.kind),
+                kind.as_bytes(),
+                mark(self.a),
+                a.as_bytes(),
+                mark(self.b),
+                b.as_bytes(),
+                mark(self.c),
+                c.as_bytes(),
+                mark(self.number),
+                number.as_bytes(),
+                b"\n",
+            ],
         )
     }
 }

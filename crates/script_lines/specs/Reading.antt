@@ -1,7 +1,7 @@
 -- One line of the text form.
-use Rattle.std.specs.Prelude.{ℕ, ◌+◌, ◌-◌, ◌*◌, ◌%◌, Bool, true, false, cond, not, ◌&&◌, ◌||◌, List, [], ◌∷◌, length, take, Some, None, Ok, Err, codes, Option, Result, ◌==◌, nat_le, nat_lt, slice_index}
+use Rattle.std.specs.Prelude.{ℕ, ◌+◌, ◌-◌, ◌*◌, ◌%◌, Bool, true, cond, not, ◌&&◌, ◌||◌, List, [], ◌∷◌, length, map, take, Some, None, Ok, Err, codes, Option, Result, ◌==◌, nat_le, nat_lt, slice_index}
 use Rattle.std.specs.Borrow.{Bor}
-use Rattle.std.specs.List.{prefix_len}
+use Rattle.std.specs.List.{list_all}
 use Rattle.std.specs.Str.{bytes_eq}
 use Rattle.octets.specs.declared.Class.TheVariants.{Visible}
 use Rattle.octets.specs.Classes.{has}
@@ -18,8 +18,9 @@ use Rattle.script_lines.specs.declared.Operand.TheVariants.{Number, Byte, Kind, 
 use Rattle.script_lines.specs.declared.forms.Form.{Form}
 use Rattle.script_lines.specs.declared.forms.Tail.{Tail}
 use Rattle.script_lines.specs.declared.forms.Tail.TheVariants as tail
-use Rattle.script_lines.specs.declared.words.Run.TheVariants.{Text, Hex}
-use Rattle.script_lines.specs.Words.{hex_value, in_run, number_in, is_name}
+use Rattle.script_lines.specs.declared.Source.{Source}
+use Rattle.script_lines.specs.declared.Source.TheVariants.{Text, Hex}
+use Rattle.script_lines.specs.Words.{hex_value, number_in, is_name}
 use Rattle.script_lines.specs.Operands.{skipped, word_in, rest_in, fault_at, and_on, operand_in, register_if}
 use Rattle.script_lines.specs.Forms.{form_of}
 
@@ -41,13 +42,18 @@ pairs [] = []
 pairs (d ∷ []) = []
 pairs (d ∷ e ∷ ds) = pair_value d e ∷ pairs ds
 
--- the bytes that digits or a text stand for
-abbrev pub bytes_of : Bool → List ℕ → List ℕ
-bytes_of hex source = cond hex (pairs source) source
+-- the byte that a pair of digits writes
+abbrev pub pair_byte : List ℕ → ℕ
+pair_byte p = pair_value (slice_index p 0) (slice_index p 1)
+
+-- the bytes that a text or pairs of digits stand for
+abbrev pub bytes_of : Source → List ℕ
+bytes_of (Text text) = text.now
+bytes_of (Hex ds) = map pair_byte ds.now
 
 -- the bytes of data
 abbrev pub data_of : Data → List ℕ
-data_of d = bytes_of d.hex d.source.now
+data_of d = bytes_of d.source
 
 -- a line that was read, by the bytes that it refers to
 abbrev pub meaning_of : Line → Meaning
@@ -116,34 +122,46 @@ raw_line s =
     and_on (operand_in (last_operand k.0) c.1) (λ n.
     ended_with n.1 (step (row_of k.0 a.0 b.0 c.0 n.0)))))))
 
+-- nothing but hexadecimal digits
+abbrev pub has_hex : List ℕ → Bool
+has_hex w = list_all (λ b. nat_lt (hex_value b) 16) w
+
 -- digits in pairs
 abbrev pub is_hex : List ℕ → Bool
-is_hex w = (not (length w == 0) && length w % 2 == 0) && prefix_len (in_run Hex) w == length w
+is_hex w = (not (length w == 0) && length w % 2 == 0) && has_hex w
+
+-- whether a byte is of a text in quotes
+abbrev pub in_text : ℕ → Bool
+in_text b = not (b == 34)
 
 -- a text up to its second quote, and what follows
-abbrev pub closed : Option (List ℕ) → List ℕ → Option (Bool × List ℕ × List ℕ)
+abbrev pub closed : Option (List ℕ) → List ℕ → Option (List ℕ × List ℕ)
 closed None text = None
-closed (Some rest) text = Some (false, text, rest)
+closed (Some rest) text = Some (text, rest)
+
+-- the same, of what follows the first quote
+abbrev pub quoted : List ℕ → Option (List ℕ × List ℕ)
+quoted t = closed (after (codes "\"") (past in_text t)) (front in_text t)
 
 -- a text after its first quote, or else a word of digits; and what follows
-abbrev pub quoted_or : Option (List ℕ) → List ℕ → Option (Bool × List ℕ × List ℕ)
-quoted_or (Some t) s = closed (after (codes "\"") (past (in_run Text) t)) (front (in_run Text) t)
-quoted_or None s = cond (is_hex (front (has Visible) s)) (Some (true, front (has Visible) s, past (has Visible) s)) None
+abbrev pub quoted_or : Option (List ℕ) → List ℕ → Option (List ℕ × List ℕ)
+quoted_or (Some t) s = quoted t
+quoted_or None s = cond (is_hex (front (has Visible) s)) (Some (pairs (front (has Visible) s), past (has Visible) s)) None
 
--- the bytes of data: whether they are digits, the digits or the text, and what follows
-abbrev pub source_in : List ℕ → Option (Bool × List ℕ × List ℕ)
+-- the bytes of data, and what follows
+abbrev pub source_in : List ℕ → Option (List ℕ × List ℕ)
 source_in s = quoted_or (after (codes "\"") s) s
 
 -- the same of what a reader found
-abbrev pub source_of : Bool × Bor (List ℕ) × Bor (List ℕ) → Bool × List ℕ × List ℕ
-source_of p = (p.0, p.1.now, p.2.now)
+abbrev pub source_of : Source × Bor (List ℕ) → List ℕ × List ℕ
+source_of p = (bytes_of p.0, p.1.now)
 
 -- bytes from a place on, if they end within the memory
-abbrev pub with_source : Option (Bool × List ℕ × List ℕ) → ℕ → ℕ → ℕ → List ℕ → Result Meaning Fault
+abbrev pub with_source : Option (List ℕ × List ℕ) → ℕ → ℕ → ℕ → List ℕ → Result Meaning Fault
 with_source None place x y s = Err (fault_at s expected.Bytes)
 with_source (Some p) place x y s =
-    cond (nat_le (place + length (bytes_of p.0 p.1)) 4096)
-    (ended_with p.2 (bytes place x y (bytes_of p.0 p.1)))
+    cond (nat_le (place + length p.0) 4096)
+    (ended_with p.1 (bytes place x y p.0))
     (Err (fault_at s Memory))
 
 -- the bytes of data, after the place and the registers

@@ -3,17 +3,10 @@ use Rattle.std.specs.Prelude.{ℕ, ◌+◌, ◌-◌, ◌*◌, Bool, cond, not, �
 use Rattle.octets.specs.Classes.{within}
 use Rattle.octets.specs.Fronts.{and_then, after}
 use Rattle.octets.specs.Numbers.{number}
-use Rattle.script_lines.specs.declared.words.Run.{Run}
-use Rattle.script_lines.specs.declared.words.Run.TheVariants.{Text, Hex}
 
 -- what a hexadecimal digit stands for; 16 if it is none
 abbrev pub hex_value : ℕ → ℕ
 hex_value b = cond (within 48 57 b) (b - 48) (cond (within 97 102 b) (b - 87) (cond (within 65 70 b) (b - 55) 16))
-
--- the bytes of a text in quotes, and those that are hexadecimal digits
-abbrev pub in_run : Run → ℕ → Bool
-in_run Text b = not (b == 34)
-in_run Hex b = nat_lt (hex_value b) 16
 
 -- the number that hexadecimal digits write, after those of n, if it has 32 bits
 abbrev pub hex_from : ℕ → List ℕ → Option ℕ

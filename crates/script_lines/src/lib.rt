@@ -2,14 +2,16 @@
 #![tactic(auto)]
 
 mod forms;
+mod messages;
 mod operands;
 mod reading;
 mod words;
 
 pub use forms::{Form, Tail, form_of};
+pub use operands::fault_at;
 pub use reading::read_line;
 
-// A step by its bytes: kind, three places, number.
+// A step by its bytes, as they stand in the page file: kind, three places, number.
 #[derive(Clone, Copy)]
 pub struct Row {
     pub kind: u8,
@@ -33,14 +35,22 @@ pub enum Line<'a> {
     Bytes(Data<'a>),
 }
 
-// Bytes for the memory from a place on, by two registers: a text, or two hexadecimal digits for each byte.
+// Bytes for the memory from a place on, by two registers.
 #[derive(Clone, Copy)]
 pub struct Data<'a> {
     pub place: u32,
     pub x: u8,
     pub y: u8,
-    pub hex: bool,
-    pub source: &'a [u8],
+    pub source: Source<'a>,
+}
+
+// Where bytes come from.
+#[derive(Clone, Copy)]
+pub enum Source<'a> {
+    // a text, whose bytes they are
+    Text(&'a [u8]),
+    // two hexadecimal digits for each byte
+    Hex(&'a [[u8; 2]]),
 }
 
 // A word that stands for a number in some range.

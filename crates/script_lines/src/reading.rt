@@ -1,19 +1,23 @@
 // One line of the text form.
 ghost use Rattle.std.specs.Prelude.{◌≡◌, ◌≤◌, length, slice_index};
+ghost use Rattle.std.specs.List.{prefix_len};
 ghost use Rattle.std.specs.Option.{option_map};
-ghost use Rattle.script_lines.specs.Reading.{meaning_of, line_read, numbered, at_end, ended_with, target_in, tail_line, step_line, raw_line, last_operand, pair_value, data_of, source_of, source_in, data_bytes, data_line, label_in, other_line, line_in};
+ghost use Rattle.script_lines.specs.Reading.{meaning_of, line_read, numbered, at_end, ended_with, target_in, tail_line, step_line, raw_line, last_operand, has_hex, is_hex, in_text, quoted, pair_byte, data_of, source_of, source_in, data_bytes, data_line, label_in, other_line, line_in};
 
 use crate::forms::{Form, Tail, form_of};
-use crate::operands::{read_operand, register_if};
-use crate::words::{Run, hex_value, is, is_name, number, span_of};
-use crate::{Data, Expected, Fault, Line, Operand, Row};
+use crate::operands::{fault_at, next_word, read_operand, register_if};
+use crate::words::{hex_value, is_name, number};
+use crate::{Data, Expected, Fault, Line, Operand, Row, Source};
 use octets::{Class, split, strip};
 
 fn is_end(s: &[u8]) -> bool
     ensures { result ≡ at_end s.now }
 {
     let (_, t) = split(Class::Blank, s);
-    t.is_empty() || t[0] == b';'
+    match t {
+        [] | [b';', ..] => true,
+        _ => false,
+    }
 }
 
 // The line, if nothing is left of it but a comment.
@@ -21,13 +25,10 @@ fn ended<'a>(s: &'a [u8], line: Line<'a>) -> Result<Line<'a>, Fault>
     ensures { line_read result ≡ ended_with s.now (meaning_of line.entry) }
 {
     if is_end(s) {
-        return Ok(line);
+        Ok(line)
+    } else {
+        Err(fault_at(s, Expected::LineEnd))
     }
-    let (_, t) = split(Class::Blank, s);
-    Err(Fault {
-        left: t.len(),
-        expected: Expected::LineEnd,
-    })
 }
 
 impl Row {
@@ -42,18 +43,14 @@ impl Row {
 fn target_line(row: Row, s: &[u8]) -> Result<Line<'_>, Fault>
     ensures { line_read result ≡ target_in row s.now }
 {
-    let (_, t) = split(Class::Blank, s);
-    let (w, rest) = split(Class::Visible, t);
-    if let Some(n) = number(w) {
-        return ended(rest, Line::Step(row.numbered(n)));
+    let word = next_word(s);
+    if let Some(n) = number(word.text) {
+        return ended(word.rest, Line::Step(row.numbered(n)));
     }
-    if !is_name(w) {
-        return Err(Fault {
-            left: t.len(),
-            expected: Expected::Target,
-        });
+    if !is_name(word.text) {
+        return Err(fault_at(s, Expected::Target));
     }
-    ended(rest, Line::Jump(row, w, t.len()))
+    ended(word.rest, Line::Jump(row, word.text, word.left))
 }
 
 fn tail_line(row: Row, tail: Tail, s: &[u8]) -> Result<Line<'_>, Fault>
@@ -86,6 +83,7 @@ fn step_line(form: Form, s: &[u8]) -> Result<Line<'_>, Fault>
     tail_line(row, form.tail, s)
 }
 
+// The kind is the byte of the page file, which this form names as a number.
 fn last_operand(kind: u8) -> Operand
     ensures { result ≡ last_operand kind }
 {
@@ -115,29 +113,57 @@ fn raw_line(s: &[u8]) -> Result<Line<'_>, Fault>
     ended(s, Line::Step(row))
 }
 
-// The bytes of data: whether they are digits, the digits or the text, and what follows them.
-fn read_source(s: &[u8]) -> Option<(bool, &[u8], &[u8])>
+fn has_hex(w: &[u8]) -> bool
+    ensures { result ≡ has_hex w.now }
+{
+    w.iter().all(|b| hex_value(*b) < 16)
+}
+
+fn is_hex(w: &[u8]) -> bool
+    ensures { result ≡ is_hex w.now }
+{
+    !w.is_empty() && w.len() % 2 == 0 && has_hex(w)
+}
+
+// How many bytes there are before the second quote.
+fn text_length(t: &[u8]) -> usize
+    ensures is { result ≡ prefix_len in_text t.now }
+    ensures within { result ≤ length t.now }
+{
+    t.iter().take_while(|b| **b != b'"').count()
+}
+
+// A text after its first quote, and what follows its second one.
+fn quoted(t: &[u8]) -> Option<(Source<'_>, &[u8])>
+    ensures { option_map source_of result ≡ quoted t.now }
+{
+    let length = text_length(t);
+    let (text, end) = t.split_at(length);
+    Some((Source::Text(text), strip(end, b"\"")?))
+}
+
+// The bytes of data, and what follows them.
+#[tactic(auto, using(crate::proofs::Pairs::pairs_are))]
+fn read_source(s: &[u8]) -> Option<(Source<'_>, &[u8])>
     ensures { option_map source_of result ≡ source_in s.now }
 {
     if let Some(t) = strip(s, b"\"") {
-        let (text, end) = t.split_at(span_of(Run::Text, t));
-        let Some(rest) = strip(end, b"\"") else {
-            return None;
-        };
-        return Some((false, text, rest));
+        return quoted(t);
     }
     let (digits, rest) = split(Class::Visible, s);
-    if digits.is_empty() || digits.len() % 2 != 0 || span_of(Run::Hex, digits) != digits.len() {
+    if !is_hex(digits) {
         return None;
     }
-    Some((true, digits, rest))
+    let (pairs, _) = digits.as_chunks();
+    Some((Source::Hex(pairs), rest))
 }
 
 // The byte that two hexadecimal digits write.
-fn pair_value(d: u8, e: u8) -> u8
-    ensures { result ≡ pair_value d e }
+fn pair_byte(pair: &[u8; 2]) -> u8
+    ensures { result ≡ pair_byte pair.now }
 {
-    ((hex_value(d) as u16 * 16 + hex_value(e) as u16) % 256) as u8
+    let [d, e] = pair.map(hex_value);
+    ((d as u16 * 16 + e as u16) % 256) as u8
 }
 
 impl Data<'_> {
@@ -145,24 +171,19 @@ impl Data<'_> {
     pub fn count(self) -> usize
         ensures { result ≡ length (data_of self.entry) }
     {
-        let n = self.source.len();
-        if self.hex { n / 2 } else { n }
+        match self.source {
+            Source::Text(text) => text.len(),
+            Source::Hex(pairs) => pairs.len(),
+        }
     }
 
     // One of the bytes; 0 past their end.
     pub fn byte(self, i: usize) -> u8
         ensures { result ≡ slice_index (data_of self.entry) i }
     {
-        if self.hex {
-            if i < self.source.len() / 2 {
-                pair_value(self.source[i * 2], self.source[i * 2 + 1])
-            } else {
-                0
-            }
-        } else if i < self.source.len() {
-            self.source[i]
-        } else {
-            0
+        match self.source {
+            Source::Text(text) => text.get(i).copied().unwrap_or(0),
+            Source::Hex(pairs) => pairs.get(i).map_or(0, pair_byte),
         }
     }
 }
@@ -172,24 +193,15 @@ fn data_bytes(place: u32, x: u8, y: u8, s: &[u8]) -> Result<Line<'_>, Fault>
     ensures { line_read result ≡ data_bytes place x y s.now }
 {
     let (_, t) = split(Class::Blank, s);
-    let Some((hex, source, rest)) = read_source(t) else {
-        return Err(Fault {
-            left: t.len(),
-            expected: Expected::Bytes,
-        });
-    };
+    let (source, rest) = read_source(t).ok_or(fault_at(s, Expected::Bytes))?;
     let data = Data {
         place,
         x,
         y,
-        hex,
         source,
     };
     if data.count() > 4096 - place as usize {
-        return Err(Fault {
-            left: t.len(),
-            expected: Expected::Memory,
-        });
+        return Err(fault_at(s, Expected::Memory));
     }
     ended(rest, Line::Bytes(data))
 }
@@ -207,45 +219,37 @@ fn data_line(s: &[u8]) -> Result<Line<'_>, Fault>
 fn label_in(w: &[u8]) -> Option<&[u8]>
     ensures { option_map (λ x. x.now) result ≡ label_in w.now }
 {
-    let n = w.len();
-    if is_name(w) && n > 1 && w[n - 1] == b':' {
-        Some(&w[0..n - 1])
-    } else {
-        None
+    match w {
+        [_, .., b':'] if is_name(w) => Some(&w[..w.len() - 1]),
+        _ => None,
     }
 }
 
 fn other_line(line: &[u8]) -> Result<Line<'_>, Fault>
     ensures { line_read result ≡ other_line line.now }
 {
-    let (_, t) = split(Class::Blank, line);
-    let (w, rest) = split(Class::Visible, t);
-    if is(w, b"data") {
-        return data_line(rest);
+    let word = next_word(line);
+    match word.text {
+        b"data" => data_line(word.rest),
+        b"step" => raw_line(word.rest),
+        _ => Err(fault_at(line, Expected::Mnemonic)),
     }
-    if is(w, b"step") {
-        return raw_line(rest);
-    }
-    Err(Fault {
-        left: t.len(),
-        expected: Expected::Mnemonic,
-    })
 }
 
 // What a line stands for, or what was expected in it.
+#[tactic(auto, unfolding(crate::specs::Reading::line_in))]
 pub fn read_line(line: &[u8]) -> Result<Line<'_>, Fault>
     ensures { line_read result ≡ line_in line.now }
 {
     if is_end(line) {
         return Ok(Line::Nothing);
     }
-    let (_, t) = split(Class::Blank, line);
-    let (w, rest) = split(Class::Visible, t);
-    if let Some(name) = label_in(w) {
-        return ended(rest, Line::Label(name));
+    let word = next_word(line);
+    if let Some(name) = label_in(word.text) {
+        return ended(word.rest, Line::Label(name));
     }
-    if let Some(form) = form_of(w) {
-        return step_line(form, rest);
+    match form_of(word.text) {
+        Some(form) => step_line(form, word.rest),
+        None => other_line(line),
     }
-    other_line(line)
 }
