@@ -6,7 +6,7 @@ use book::record::Event;
 use bounded::site::SiteNumber;
 use browser::values::{Out, What};
 use loading::files::{read_file, read_plan};
-use loading::stop::{Stop, report};
+use loading::stop::{Stop, exit_code};
 use std::alloc::{AllocError, Global};
 use std::process::ExitCode;
 use std::{env, io};
@@ -15,48 +15,44 @@ use words::scan::Scanner;
 
 // The host of a site, with its port unless that is 443.
 fn name(heap: Global, table: &Table, site: SiteNumber) -> Result<String, AllocError> {
-    let mut text = String::new(heap);
     let Some(site) = table.site(site) else {
-        text.push_str("a site that the settings do not name")?;
-        return Ok(text);
+        return String::from_str(heap, "a site that the settings do not name");
     };
-    for b in site.host {
-        text.push(*b as char)?;
+    let host = text_of(heap, site.host)?;
+    if site.port == 443 {
+        return Ok(host);
     }
-    if site.port != 443 {
-        let port = site.port;
-        text.push_str(format!(in heap; ":{port}")?.as_str())?;
+    let port = site.port;
+    format!(in heap; "{host}:{port}")
+}
+
+// The character of each byte.
+fn text_of(heap: Global, bytes: &[u8]) -> Result<String, AllocError> {
+    let mut text = String::new(heap);
+    for b in bytes {
+        text.push(*b as char)?;
     }
     Ok(text)
 }
 
 fn is_plain(bytes: &[u8]) -> bool {
-    for b in bytes {
-        if *b < b' ' || *b > b'~' {
-            return false;
-        }
-    }
-    true
+    bytes.iter().all(|b| *b >= b' ' && *b <= b'~')
 }
 
 // Bytes as a text in quotes, or else in hex.
 fn shown(heap: Global, bytes: &[u8]) -> Result<String, AllocError> {
-    let mut text = String::new(heap);
     if is_plain(bytes) {
-        text.push('"')?;
-        for b in bytes {
-            text.push(*b as char)?;
-        }
-        text.push('"')?;
-    } else {
-        text.push_str("the bytes")?;
-        for b in bytes {
-            text.push_str(format!(in heap; " {b:02x}")?.as_str())?;
-        }
+        let text = text_of(heap, bytes)?;
+        return format!(in heap; "\"{text}\"");
+    }
+    let mut text = String::from_str(heap, "the bytes")?;
+    for b in bytes {
+        text.push_str(format!(in heap; " {b:02x}")?.as_str())?;
     }
     Ok(text)
 }
 
+// The handle of the host and the table are passed to each function that tells: the one prints, the other names sites.
 fn tell_out(rt: &HostRuntime, table: &Table, out: &Out) -> Result<(), Stop> {
     let heap = rt.alloc();
     let from = name(heap, table, out.from)?;
@@ -109,11 +105,10 @@ fn tell(rt: &HostRuntime, table: &Table, line: &Line) -> Result<(), Stop> {
     if fault != 0 {
         println!(rt; "      fault {fault}")?;
     }
-    if let Some(out) = &line.record.page {
-        tell_out(rt, table, out)?;
-    }
-    if let Some(out) = &line.record.server {
-        tell_out(rt, table, out)?;
+    for out in [&line.record.page, &line.record.server] {
+        if let Some(out) = out {
+            tell_out(rt, table, out)?;
+        }
     }
     Ok(())
 }
@@ -121,6 +116,7 @@ fn tell(rt: &HostRuntime, table: &Table, line: &Line) -> Result<(), Stop> {
 // Line after line, to the end or to the first one that can't be read.
 fn tell_all(rt: &HostRuntime, table: &Table, book: &[u8]) -> Result<(), Stop> {
     let mut rest = Scanner { rest: book };
+    // Counted, so that it is seen to end: the reader doesn't say that less is left after a line.
     for _ in 0..u64::MAX {
         let Some(line) = read_line(&mut rest) else {
             break;
@@ -134,6 +130,7 @@ fn tell_all(rt: &HostRuntime, table: &Table, book: &[u8]) -> Result<(), Stop> {
 }
 
 fn run(rt: &HostRuntime) -> Result<(), Stop> {
+    // One by one: a function that gives all as an array was tried, and the borrow checker does not cover it.
     let mut args = env::args(rt)?;
     let _ = args.next();
     let (Some(settings), Some(book), None) = (args.next(), args.next(), args.next()) else {
@@ -146,8 +143,5 @@ fn run(rt: &HostRuntime) -> Result<(), Stop> {
 }
 
 fn main(rt: HostRuntime) -> ExitCode {
-    match report(&rt, "account", run(&rt)) {
-        Ok(()) => ExitCode::SUCCESS,
-        Err(_) => ExitCode::FAILURE,
-    }
+    exit_code(&rt, "account", run(&rt))
 }

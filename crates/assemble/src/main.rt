@@ -4,34 +4,8 @@
 
 use anyhow::anyhow;
 use assembler::assemble;
-use script_lines::{Expected, Operand};
 use std::io::{Read, Write};
 use std::process::ExitCode;
-
-fn operand_text(operand: Operand) -> &'static str {
-    match operand {
-        Operand::Register => "a register, `r0` to `r31`",
-        Operand::Number => "a number up to 4294967295",
-        Operand::Byte => "a number up to 255",
-        Operand::Kind => "the kind of a step, up to 10",
-        Operand::Call => "what a wait asks for, up to 5",
-        Operand::Place => "a place of the memory, up to 4095",
-    }
-}
-
-fn expected_text(expected: Expected) -> &'static str {
-    match expected {
-        Expected::Mnemonic => "a mnemonic, or a label and `:`",
-        Expected::Operand(operand) => operand_text(operand),
-        Expected::Target => "a number or the name of a label",
-        Expected::Bytes => "a text in quotes, or hexadecimal digits in pairs",
-        Expected::Memory => "bytes that end below place 4096",
-        Expected::LineEnd => "the end of the line",
-        Expected::NewLabel => "a name that no line above has",
-        Expected::KnownLabel => "the name of a label of this text",
-        Expected::FewerSteps => "at most 2,000 steps",
-    }
-}
 
 fn main(rt: HostRuntime) -> anyhow::Result<ExitCode> {
     let mut text = Vec::new(rt.alloc());
@@ -46,7 +20,7 @@ fn main(rt: HostRuntime) -> anyhow::Result<ExitCode> {
         Err(refusal) => {
             let line = refusal.line;
             let column = refusal.column;
-            let expected = expected_text(refusal.expected);
+            let expected = refusal.expected;
             eprintln!(rt; "line {line}, column {column}: expected {expected}")?;
             Ok(ExitCode::FAILURE)
         }

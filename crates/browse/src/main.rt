@@ -4,7 +4,7 @@
 #![tactic(auto)]
 
 use loading::files::{read_file, read_plan};
-use loading::stop::{Stop, report};
+use loading::stop::{Stop, exit_code};
 use pages::limits;
 use pipes::carrier::Pipes;
 use pipes::fault::Lost;
@@ -26,6 +26,7 @@ fn say_limits(rt: &HostRuntime) -> Result<(), Stop> {
 }
 
 fn run(rt: &HostRuntime) -> Result<(), Stop> {
+    // One by one: a function that gives all as an array was tried, and the borrow checker does not cover it.
     let mut args = env::args(rt)?;
     let _ = args.next();
     let Some(path) = args.next() else {
@@ -36,6 +37,7 @@ fn run(rt: &HostRuntime) -> Result<(), Stop> {
     };
     let text = read_file(rt, path.as_str())?;
     let plan = read_plan(rt.alloc(), path.as_str(), &text)?;
+    // By match here, since the path is moved into the error and is needed further on too.
     let file = match File::create(rt, book_path.as_str()) {
         Ok(file) => file,
         Err(why) => {
@@ -71,8 +73,5 @@ fn run(rt: &HostRuntime) -> Result<(), Stop> {
 }
 
 fn main(rt: HostRuntime) -> ExitCode {
-    match report(&rt, "browse", run(&rt)) {
-        Ok(()) => ExitCode::SUCCESS,
-        Err(_) => ExitCode::FAILURE,
-    }
+    exit_code(&rt, "browse", run(&rt))
 }

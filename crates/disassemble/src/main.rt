@@ -8,6 +8,7 @@ use scripts::Unreadable;
 use std::io::{Read, Write};
 use std::process::ExitCode;
 
+// A function, since only the crate of the fault could write a Display for it.
 fn fault_text(fault: Unreadable) -> &'static str {
     match fault {
         Unreadable::OtherKind => "it does not begin with `PAGE 1`",

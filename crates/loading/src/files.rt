@@ -1,6 +1,8 @@
 // Files that are read whole, and the plan that settings are.
+ghost use Rattle.std.specs.Prelude.{Err};
 ghost use Rattle.loading.specs.Planned.{Planned};
-ghost use Rattle.settings.specs.Settings.{read_settings};
+ghost use Rattle.plans.specs.Reading.{PlanRead};
+ghost use Rattle.settings.specs.Settings.{read_settings, Config, Outcome};
 
 use crate::stop::Stop;
 use plans::plan::{Plan, Unplanned};
@@ -8,12 +10,22 @@ use std::alloc::Global;
 use std::fs;
 
 pub fn read_file(rt: &HostRuntime, path: &str) -> Result<Vec<u8>, Stop> {
-    match fs::read(rt, path) {
-        Ok(bytes) => Ok(bytes),
-        Err(why) => {
-            let path = String::from_str(rt.alloc(), path)?;
-            Err(Stop::File { path, why })
-        }
+    fs::read(rt, path).or_else(|why| {
+        let path = String::from_str(rt.alloc(), path)?;
+        Err(Stop::File { path, why })
+    })
+}
+
+// Why there is no plan, with the name of the settings' file.
+fn unplanned(heap: Global, path: &str, why: Unplanned) -> Stop
+    ensures { (o : Outcome Config) → PlanRead o (Err why) → Planned o (Err result) }
+{
+    let Unplanned::Refused(refusal) = why else {
+        return Stop::NoMemory;
+    };
+    match String::from_str(heap, path) {
+        Ok(path) => Stop::Settings { path, refusal },
+        Err(_) => Stop::NoMemory,
     }
 }
 
@@ -21,14 +33,5 @@ pub fn read_file(rt: &HostRuntime, path: &str) -> Result<Vec<u8>, Stop> {
 pub fn read_plan<'a>(heap: Global, path: &str, text: &'a [u8]) -> Result<Plan<'a>, Stop>
     ensures { Planned (read_settings text.now) result }
 {
-    match Plan::read(heap, text) {
-        Ok(plan) => Ok(plan),
-        Err(Unplanned::NoMemory(_)) => Err(Stop::NoMemory),
-        Err(Unplanned::Refused(refusal)) => {
-            let Ok(path) = String::from_str(heap, path) else {
-                return Err(Stop::NoMemory);
-            };
-            Err(Stop::Settings { path, refusal })
-        }
-    }
+    Plan::read(heap, text).map_err(|why| unplanned(heap, path, why))
 }

@@ -22,14 +22,11 @@ fn path_of(heap: Global, folder: &str, site: Site<'_>) -> Result<String, AllocEr
 
 // What a file holds, if it is there.
 fn read_if_any(rt: &HostRuntime, path: &str) -> io::Result<Option<Vec<u8>>> {
+    // By match: of the errors only one is none, and `map` and `or_else` in a row would say it in two places.
     match fs::read(rt, path) {
         Ok(bytes) => Ok(Some(bytes)),
-        Err(e) => {
-            if e.kind() == ErrorKind::NotFound {
-                return Ok(None);
-            }
-            Err(e)
-        }
+        Err(e) if e.kind() == ErrorKind::NotFound => Ok(None),
+        Err(e) => Err(e),
     }
 }
 
@@ -44,15 +41,16 @@ fn load_one(
     ensures { (sites : List SiteValue) → Fresh sites (states_of servers.old) → Fresh sites (states_of servers.new) }
 {
     let path = path_of(rt.alloc(), folder, site)?;
+    // By match, since the path is moved into the error and is needed further on too.
     let page = match read_if_any(rt, path.as_str()) {
         Ok(Some(page)) => page,
         Ok(None) => return Ok(()),
         Err(why) => return Err(Stop::File { path, why }),
     };
-    match servers.add(n, &page) {
-        Ok(_) => Ok(()),
-        Err(why) => Err(Stop::Script { path, why }),
-    }
+    servers
+        .add(n, &page)
+        .map_err(|why| Stop::Script { path, why })?;
+    Ok(())
 }
 
 // A server for each of these sites, none of which has begun; one without a file answers nothing.
@@ -64,10 +62,7 @@ pub fn load<'a>(
     ensures { IfOk result (λ x. Fresh sites.now (states_of x)) }
 {
     let mut servers = ScriptServers::new(rt.alloc(), sites)?;
-    for n in 0..16u8 {
-        let Some(site) = sites.get(n as usize) else {
-            return Ok(servers);
-        };
+    for (n, site) in (0..16u8).zip(sites) {
         load_one(rt, folder, &mut servers, n, *site)?;
     }
     Ok(servers)

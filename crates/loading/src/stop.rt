@@ -1,10 +1,11 @@
 // Why a program stops before its work is done.
-ghost use Rattle.std.specs.Prelude.{◌≡◌};
+ghost use Rattle.std.specs.Prelude.{◌≡◌, MatchResult};
 ghost use Rattle.settings.specs.Views.{fault_number};
 
 use scripts::Unreadable;
 use settings::{Fault, Refusal};
 use std::alloc::{AllocError, AllocFailed};
+use std::process::ExitCode;
 use std::{fmt, io};
 
 #[derive(Drop)]
@@ -24,7 +25,7 @@ pub enum Stop {
     NoMemory,
 }
 
-// The number of a fault of settings.
+// The number of a fault of settings. A function, since neither the fault nor the number is a type of this crate.
 pub fn fault_number(fault: Fault) -> u8
     ensures { result ≡ fault_number fault }
 {
@@ -74,10 +75,13 @@ impl fmt::Display for Stop {
     }
 }
 
-// Says on standard error why the program stops, and hands it on.
-pub fn report(rt: &impl Eprint, name: &str, done: Result<(), Stop>) -> Result<(), Stop> {
-    if let Err(stop) = &done {
-        let _ = eprintln!(rt; "{name}: {stop}");
-    }
-    done
+// How a program ends: if it stopped before its work was done, it says on standard error why.
+pub fn exit_code(rt: &impl Eprint, name: &str, done: Result<(), Stop>) -> ExitCode
+    ensures { MatchResult done (λ _. result ≡ ExitCode.SUCCESS) (λ _. result ≡ ExitCode.FAILURE) }
+{
+    let Err(stop) = done else {
+        return ExitCode::SUCCESS;
+    };
+    let _ = eprintln!(rt; "{name}: {stop}");
+    ExitCode::FAILURE
 }

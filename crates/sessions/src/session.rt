@@ -12,7 +12,8 @@ use runs::run::run;
 use servers::carrier::Carrier;
 use std::alloc::{AllocError, Global};
 
-// Requests have up to 4,096 bytes, and answers up to 32,768: the largest page with its head.
+// Requests have up to 4,096 bytes, and answers up to 32,768: the largest page with its head. They lie in two buffers of
+// fixed size, since a turn claims no memory.
 pub fn browse<C: Carrier, B: Book>(
     heap: Global,
     plan: Plan<'_>,

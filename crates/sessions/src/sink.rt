@@ -7,7 +7,7 @@ pub trait Sink {
     // What putting bytes may do: the sink before, the bytes, whether they were taken, the sink after.
     ghost puts: { Self → List ℕ → Bool → Self → Type 0 };
 
-    // Puts bytes behind those that are there, and says whether they were taken.
+    // Puts bytes behind those that are there, and says whether they were taken. A bool: of a failure no more is told than that.
     fn put(&mut self, bytes: &[u8]) -> bool
         ensures { puts self.old bytes.now result self.new };
 }

@@ -9,7 +9,8 @@ use book::record::Record;
 use book::write::{LINE_ROOM, write_line};
 use runs::notes::Book;
 
-// Where the lines go, the number of the next one, and whether one was not taken.
+// Where the lines go, the number of the next one, and whether one was not taken. A flag beside the number, since
+// the law of a book says what becomes of each.
 #[derive(Drop)]
 pub struct WrittenBook<S> {
     pub sink: S,

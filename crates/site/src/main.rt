@@ -5,7 +5,7 @@
 use loading::files::{read_file, read_plan};
 use loading::folder::load;
 use loading::sites::sites_of;
-use loading::stop::{Stop, report};
+use loading::stop::{Stop, exit_code};
 use pipes::fault::Lost;
 use pipes::serve::serve;
 use servers::carrier::InProcess;
@@ -14,6 +14,7 @@ use std::io::{BufReader, BufWriter};
 use std::process::ExitCode;
 
 fn run(rt: &HostRuntime) -> Result<(), Stop> {
+    // One by one: a function that gives all as an array was tried, and the borrow checker does not cover it.
     let mut args = env::args(rt)?;
     let _ = args.next();
     let (Some(path), Some(folder), None) = (args.next(), args.next(), args.next()) else {
@@ -42,8 +43,5 @@ fn run(rt: &HostRuntime) -> Result<(), Stop> {
 }
 
 fn main(rt: HostRuntime) -> ExitCode {
-    match report(&rt, "site", run(&rt)) {
-        Ok(()) => ExitCode::SUCCESS,
-        Err(_) => ExitCode::FAILURE,
-    }
+    exit_code(&rt, "site", run(&rt))
 }

@@ -7,7 +7,7 @@ use compare::difference::Difference;
 use loading::files::{read_file, read_plan};
 use loading::folder::load;
 use loading::sites::{number_of, sites_of};
-use loading::stop::{Stop, report};
+use loading::stop::{Stop, exit_code};
 use side_by_side::twice::twice;
 use side_by_side::verdict::{Place, Verdict};
 use std::process::ExitCode;
@@ -58,6 +58,7 @@ fn say(rt: &HostRuntime, verdict: Verdict) -> io::Result<()> {
 }
 
 fn run(rt: &HostRuntime) -> Result<(), Stop> {
+    // One by one: a function that gives all as an array was tried, and the borrow checker does not cover it.
     let mut args = env::args(rt)?;
     let _ = args.next();
     let (Some(path), Some(first), Some(second), Some(name), None) = (
@@ -72,6 +73,7 @@ fn run(rt: &HostRuntime) -> Result<(), Stop> {
     let text = read_file(rt, path.as_str())?;
     let plan = read_plan(rt.alloc(), path.as_str(), &text)?;
     let table = plan.table;
+    // By `let .. else`: the site is lent from the name, which the error takes.
     let Some(site) = read_site(name.as_bytes()) else {
         return Err(Stop::NoSite(name));
     };
@@ -88,8 +90,5 @@ fn run(rt: &HostRuntime) -> Result<(), Stop> {
 }
 
 fn main(rt: HostRuntime) -> ExitCode {
-    match report(&rt, "twice", run(&rt)) {
-        Ok(()) => ExitCode::SUCCESS,
-        Err(_) => ExitCode::FAILURE,
-    }
+    exit_code(&rt, "twice", run(&rt))
 }
