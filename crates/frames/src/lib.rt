@@ -58,29 +58,13 @@ pub fn read_head(line: &[u8]) -> Option<Head<'_>>
 }
 
 // By name: `AsRef` would not say that it is the word at the front of a head.
-fn word(kind: Kind) -> &'static [u8]
+fn word<'a>(kind: Kind) -> &'a [u8]
     ensures { result.now ≡ kind_text kind }
 {
     match kind {
         Kind::Request => b"request ",
         Kind::Answer => b"answer ",
     }
-}
-
-// By name, since a list of pieces has one lifetime for all, and those of a head come from several places.
-fn put_head<'a>(
-    out: &mut [u8],
-    word: &'a [u8],
-    scheme: &'a [u8],
-    host: &'a [u8],
-    port: &'a [u8],
-    digits: &'a [u8],
-    newline: &'a [u8],
-) -> Option<usize>
-    ensures answer { result ≡ count (word.now ++ (scheme.now ++ (host.now ++ (port.now ++ (digits.now ++ newline.now))))) out.old }
-    ensures after { out.new ≡ written (word.now ++ (scheme.now ++ (host.now ++ (port.now ++ (digits.now ++ newline.now))))) out.old }
-{
-    put_all(out, &[word, scheme, host, port, digits, newline])
 }
 
 // Writes a head at the front of the buffer, if it is of a site and of few enough bytes and fits; else nothing. It is read
@@ -96,13 +80,15 @@ pub fn write_head(out: &mut [u8], head: Head<'_>) -> Option<usize>
     }
     let port = port_text(head.site.port);
     let digits = SmallText::decimal_after(b' ', head.len as u64);
-    put_head(
+    put_all(
         out,
-        word(head.kind),
-        b"https://",
-        head.site.host,
-        port.as_bytes(),
-        digits.as_bytes(),
-        b"\n",
+        &[
+            word(head.kind),
+            b"https://",
+            head.site.host,
+            port.as_bytes(),
+            digits.as_bytes(),
+            b"\n",
+        ],
     )
 }

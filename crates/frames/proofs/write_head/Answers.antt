@@ -18,8 +18,8 @@ returns c =
     let e : c.word.result.now ++ (codes "https://" ++ (host ++ (c.as_bytes.result.now ++ (c.as_bytes-2.result.now ++ codes "\n")))) ≡ head_text head =
     (λ i. c.word.ensures i ++ (codes "https://" ++ (host ++ ((c.as_bytes.ensures ∙ c.port_text-port.ensures) i ++ ((c.as_bytes-2.ensures ∙ c.decimal_after-digits.ensures) i ++ codes "\n")))))
     ∙ ap (λ l. kind_text c.args.head.kind ++ (codes "https://" ++ l)) (sym (append_assoc host port end)) in
-    let answer : c.put_head.result ≡ count (head_text head) out = c.put_head.ensures.answer ∙ ap (λ t. count t out) e in
-    let after : c.put_head.new.out ≡ written (head_text head) out = c.put_head.ensures.after ∙ ap (λ t. written t out) e in
+    let answer : c.put_all.result ≡ count (head_text head) out = c.put_all.ensures.answer ∙ ap (λ t. count t out) e in
+    let after : c.put_all.new.out ≡ written (head_text head) out = c.put_all.ensures.after ∙ ap (λ t. written t out) e in
     let can : can_write head ≡ true = and_from _ _ (sym c.if-not-is_site.ensures) (le-leb c.args.head.len 999999999 c.if-head-gt-MOST_BYTES.false) in
     record {
       answer = answer ∙ sym (cond-true _ _ _ can);
