@@ -47,7 +47,7 @@ impl BySite for Stores {
 pub(crate) fn first_apart<T: BySite>(one: &T, two: &T, but: SiteNumber) -> Option<SiteNumber>
     ensures { SiteFound (only (number_of but)) (T.BySite.values one.now) (T.BySite.values two.now) (option_map number_of result) }
 {
-    // By a loop: a site is made of each number first, and of find_map the library's lemmas say nothing.
+    // By a loop: each number is made a site first, and that sites beyond the last are alike is a clause of each comparison.
     for n in 0..16u32 {
         if let Some(site) = SiteNumber::new(n) {
             if !one.same_at(two, site) && site != but {

@@ -1,4 +1,4 @@
-use Rattle.std.proofs.Common.{length, sym, refl, ap, arith, rules}
+use Rattle.std.proofs.Common.{length, sym, refl, ap, arith}
 use Rattle.disassembler.proofs.Pages.{page_ok}
 use Rattle.disassembler.proofs.Whole.{back_of}
 use Rattle.disassembler.proofs.text.disassemble.Goals as goal
@@ -9,8 +9,5 @@ put_rows-size-requires c =
     let same = ap length c.steps-steps.ensures.steps in
     (c.steps-steps.ensures.few, (omega (arith, h.0.size, same, c.split_at.ensures.back_len), refl))
 
-pub returns-in_err-script : goal.returns-in_err-script
-returns-in_err-script c = record { size = search rules; bytes = search rules; back = back_of c.args.page.now (λ i. omega (arith, c.type_inv.page i)) }
-
-pub returns : goal.returns
-returns c = record { size = search rules; bytes = search rules; back = back_of c.args.page.now (λ i. omega (arith, c.type_inv.page i)) }
+pub returns-clause-back : goal.returns-clause-back
+returns-clause-back c = back_of c.args.page.now (λ i. omega (arith, c.type_inv.page i))

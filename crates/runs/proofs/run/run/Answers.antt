@@ -1,8 +1,8 @@
-use Rattle.std.proofs.Common.{◌≡◌, List, [], ◌∷◌, map, length, Option, sym, refl, ap, ◌∙◌, subst, inl}
+use Rattle.std.proofs.Common.{◌≡◌, List, [], ◌∷◌, map, length, sym, refl, ap, ◌∙◌, subst}
 use lib.ListN.{length-map}
 use Rattle.machine.specs.Script.{State}
 use Rattle.pages.specs.Browser.{Part, Event}
-use Rattle.pages.specs.Runs.{Agenda, Due, due}
+use Rattle.pages.specs.Runs.{Agenda, due}
 use Rattle.book.specs.Records.{Entry, entry_of, event_of}
 use Rattle.browser.specs.Parts.{part_of, sites_in}
 use Rattle.browser.specs.Wire.{SiteTable}
@@ -11,7 +11,7 @@ use Rattle.windows.specs.Windows.{window_of}
 use Rattle.plans.specs.Agendas.{agenda_of, event_in, rest_of}
 use Rattle.runs.specs.Events.{Occurs}
 use Rattle.runs.specs.Chains.{Moment}
-use Rattle.runs.proofs.Chaining.{reached_none, reached_more, step_so, none-due}
+use Rattle.runs.proofs.Chaining.{reached_none, reached_more, step_so}
 use Rattle.runs.proofs.Weights.{next_falls}
 use Rattle.runs.proofs.run.run.Goals as goal
 
@@ -21,18 +21,6 @@ counted b ws e = sym (length-map ws window_of) ∙ ap length e
 
 pub loop-browser-init : goal.loop-browser-init
 loop-browser-init g c = (refl, ([], reached_none _ _))
-
-pub returns-in_default : goal.returns-in_default
-returns-in_default g c =
-    let b : Part State = part_of c.loop-browser.browser in
-    let a : Agenda = agenda_of c.loop-browser.agenda in
-    let n = counted b c.windows.result.now c.windows.ensures.is in
-    record {
-      entries = c.loop-browser.invariant.1.0;
-      left = a;
-      went = c.loop-browser.invariant.1.1;
-      over = inl (ap {B = Option Due} (λ z. due z a) (sym n) ∙ none-due (due (length c.windows.result.now) a) c.in_default.ensures.event);
-    }
 
 pub loop-browser-smaller : goal.loop-browser-smaller
 loop-browser-smaller g c =
