@@ -57,12 +57,10 @@ fn run(rt: &HostRuntime) -> Result<(), Stop> {
         lost: None,
     };
     let _ = browse(rt.alloc(), plan, &mut pipes, &mut book)?;
-    if let Err(why) = book.sink.stream.flush() {
-        return Err(Stop::File {
-            path: book_path,
-            why,
-        });
-    }
+    book.sink.stream.flush().map_err(|why| Stop::File {
+        path: book_path,
+        why,
+    })?;
     if book.failed {
         return Err(Stop::Other("the book can't be written"));
     }

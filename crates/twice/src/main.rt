@@ -3,6 +3,7 @@
 #![tactic(auto)]
 
 use addresses::read_site;
+use bounded::site::SiteNumber;
 use compare::difference::Difference;
 use loading::files::{read_file, read_plan};
 use loading::folder::load;
@@ -12,6 +13,7 @@ use side_by_side::twice::twice;
 use side_by_side::verdict::{Place, Verdict};
 use std::process::ExitCode;
 use std::{env, io};
+use storage::table::Table;
 
 fn say_difference(rt: &HostRuntime, event: u64, difference: Difference) -> io::Result<()> {
     match difference {
@@ -57,6 +59,11 @@ fn say(rt: &HostRuntime, verdict: Verdict) -> io::Result<()> {
     }
 }
 
+// The number of the site of this name, if the settings have it.
+fn site_named(table: &Table, name: &[u8]) -> Option<SiteNumber> {
+    number_of(table, read_site(name)?)
+}
+
 fn run(rt: &HostRuntime) -> Result<(), Stop> {
     // One by one: a function that gives all as an array was tried, and the borrow checker does not cover it.
     let mut args = env::args(rt)?;
@@ -73,13 +80,7 @@ fn run(rt: &HostRuntime) -> Result<(), Stop> {
     let text = read_file(rt, path.as_str())?;
     let plan = read_plan(rt.alloc(), path.as_str(), &text)?;
     let table = plan.table;
-    // By `let .. else`: the site is lent from the name, which the error takes.
-    let Some(site) = read_site(name.as_bytes()) else {
-        return Err(Stop::NoSite(name));
-    };
-    let Some(site) = number_of(&table, site) else {
-        return Err(Stop::NoSite(name));
-    };
+    let site = site_named(&table, name.as_bytes()).ok_or(Stop::NoSite(name))?;
     let sites = sites_of(rt.alloc(), &table)?;
     let first = load(rt, first.as_str(), sites.as_slice())?;
     let second = load(rt, second.as_str(), sites.as_slice())?;
