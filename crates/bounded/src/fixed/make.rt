@@ -1,5 +1,5 @@
 // Values come in at the end and go out at the front.
-ghost use Rattle.std.specs.Prelude.{◌≡◌, ◌<◌, ◌≤◌, [], length, drop, Some, None, OnSome, IfNone, if◌then◌else◌, nat_lt};
+ghost use Rattle.std.specs.Prelude.{◌≡◌, ◌<◌, ◌≤◌, [], length, drop, Some, None, OnSome, IfNone, is_some, if◌then◌else◌, nat_le, nat_lt};
 ghost use Rattle.std.specs.List.{slice_get};
 ghost use Rattle.std.specs.Option.{option_map};
 ghost use Rattle.std.specs.Cmp.Lexicographic.{pointwise, lists_per, lists_equiv};
@@ -30,6 +30,20 @@ impl<T: Copy, const N: usize> FixedVec<T, N> {
         let mut items = [filler; N];
         items[..len].copy_from_slice(part);
         Some(FixedVec { len, items })
+    }
+
+    // These values in place of those that were here, if they are not too many; else nothing. Only their places are written.
+    pub fn assign(&mut self, part: &[T]) -> Option<()>
+        ensures is { is_some result ≡ nat_le (length part.now) N }
+        ensures after { items_of self.new ≡ (if nat_le (length part.now) N then part.now else items_of self.old) }
+        ensures stays { IfNone result (self.new ≡ self.old) }
+    {
+        if part.len() > N {
+            return None;
+        }
+        self.items[..part.len()].copy_from_slice(part);
+        self.len = part.len();
+        Some(())
     }
 
     pub fn as_slice(&self) -> &[T]

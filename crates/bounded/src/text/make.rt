@@ -1,5 +1,5 @@
 // Texts are made of slices and read as slices.
-ghost use Rattle.std.specs.Prelude.{◌≡◌, ◌≤◌, [], ◌∷◌, ◌++◌, length, IfNone, Decides};
+ghost use Rattle.std.specs.Prelude.{◌≡◌, ◌≤◌, [], ◌∷◌, ◌++◌, length, IfNone, is_some, if◌then◌else◌, nat_le, Decides};
 ghost use Rattle.std.specs.Option.{option_map};
 ghost use Rattle.std.specs.Ordering.{on};
 ghost use Rattle.std.specs.Bool.{nat_eq};
@@ -26,6 +26,15 @@ impl<const N: usize> Text<N> {
     {
         let bytes = FixedVec::from_slice(part, 0)?;
         Some(Text { bytes })
+    }
+
+    // These bytes in place of those that were here, if they are not too many; else nothing.
+    pub fn assign(&mut self, part: &[u8]) -> Option<()>
+        ensures is { is_some result ≡ nat_le (length part.now) N }
+        ensures after { text_of self.new ≡ (if nat_le (length part.now) N then part.now else text_of self.old) }
+        ensures stays { IfNone result (self.new ≡ self.old) }
+    {
+        self.bytes.assign(part)
     }
 
     // One byte more at the end, if there is room for it; else nothing.

@@ -24,11 +24,7 @@ impl Stores {
         ensures answer { result ≡ nat_le (length bytes.now) 4096 }
         ensures after { stores_of self.new ≡ (if result then at (number_of site) bytes.now (stores_of self.old) else stores_of self.old) }
     {
-        let Some(text) = Text::new(bytes) else {
-            return false;
-        };
-        self.texts[site.number() as usize] = text;
-        true
+        self.texts[site.number() as usize].assign(bytes).is_some()
     }
 
     // What the site keeps.
