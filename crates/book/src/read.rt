@@ -150,8 +150,13 @@ fn record(text: &mut Scanner<'_>) -> Option<Record>
     let event = event(text)?;
     let site = window(text)?;
     let n = text.number(b" ", u8::MAX as u64)?;
-    let page = next_out(text)?;
-    let server = next_out(text)?;
+    // No `?` here, nor where a record and a line are handed on: each is of some kilobytes, which it would copy once more.
+    let Some(page) = next_out(text) else {
+        return None;
+    };
+    let Some(server) = next_out(text) else {
+        return None;
+    };
     if !text.skip(b"\n") {
         return None;
     }
@@ -169,7 +174,9 @@ fn next_line(text: &mut Scanner<'_>) -> Option<Line>
     ensures { with (option_map line_of result) (rest_of text.new) ≡ read_line (rest_of text.old) }
 {
     let number = text.number(b"", u64::MAX)?;
-    let record = record(text)?;
+    let Some(record) = record(text) else {
+        return None;
+    };
     Some(Line { number, record })
 }
 
@@ -179,9 +186,9 @@ pub fn read_line(text: &mut Scanner<'_>) -> Option<Line>
     ensures stays { IfNone result (rest_of text.new ≡ rest_of text.old) }
 {
     let start = *text;
-    let found = next_line(text);
-    if found.is_none() {
+    let Some(found) = next_line(text) else {
         *text = start;
-    }
-    found
+        return None;
+    };
+    Some(found)
 }
