@@ -2,3 +2,4 @@ pub mod Words
 pub mod Operands
 pub mod Forms
 pub mod Reading
+pub mod Messages

@@ -1,8 +1,13 @@
 // What was expected, in words.
+ghost use Rattle.std.specs.Prelude.{Some};
+ghost use Rattle.script_lines.specs.Messages.{operand_text, expected_text};
+
 use crate::{Expected, Operand};
 use std::fmt;
 
 impl fmt::Display for Operand {
+    ghost output = { λ o. Some (operand_text o) };
+
     fn fmt<W: fmt::Write>(&self, f: &mut fmt::Formatter<W>) -> fmt::Result {
         f.write_str(match self {
             Operand::Register => "a register, `r0` to `r31`",
@@ -16,6 +21,8 @@ impl fmt::Display for Operand {
 }
 
 impl fmt::Display for Expected {
+    ghost output = { λ e. Some (expected_text e) };
+
     fn fmt<W: fmt::Write>(&self, f: &mut fmt::Formatter<W>) -> fmt::Result {
         match self {
             Expected::Mnemonic => f.write_str("a mnemonic, or a label and `:`"),

@@ -61,13 +61,15 @@ pub fn fault_at(s: &[u8], expected: Expected) -> Fault
     }
 }
 
-// The next word as an operand, and what follows it.
+// The next word as an operand, and what follows it. Out of line: inlined in what reads a line, its loop over blanks has no
+// register left for the text.
+#[inline(never)]
 pub(crate) fn read_operand(operand: Operand, s: &[u8]) -> Result<(u32, &[u8]), Fault>
     ensures is { read_of result ≡ operand_in operand s.now }
     ensures within { IfOk result (λ p. p.0 ≤ most_of operand) }
 {
     let word = next_word(s);
-    let n = value(operand, word.text).ok_or(fault_at(s, Expected::Operand(operand)))?;
+    let n = value(operand, word.text).ok_or_else(|| fault_at(s, Expected::Operand(operand)))?;
     Ok((n, word.rest))
 }
 

@@ -188,12 +188,14 @@ impl Data<'_> {
     }
 }
 
+// Out of line, as `read_operand` is.
+#[inline(never)]
 fn data_bytes(place: u32, x: u8, y: u8, s: &[u8]) -> Result<Line<'_>, Fault>
     requires { place ≤ 4095 }
     ensures { line_read result ≡ data_bytes place x y s.now }
 {
     let (_, t) = split(Class::Blank, s);
-    let (source, rest) = read_source(t).ok_or(fault_at(s, Expected::Bytes))?;
+    let (source, rest) = read_source(t).ok_or_else(|| fault_at(s, Expected::Bytes))?;
     let data = Data {
         place,
         x,
