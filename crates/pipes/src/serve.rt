@@ -1,8 +1,9 @@
 // The other side: requests come in, and each gets its answer.
 ghost use Rattle.std.specs.Prelude.{length};
+ghost use Rattle.addresses.specs.Views.{site_of};
 ghost use Rattle.storage.specs.Tables.{table_of};
 ghost use Rattle.pipes.specs.Faults.{Within};
-ghost use Rattle.pipes.specs.Serving.{Served};
+ghost use Rattle.pipes.specs.Serving.{Served, ServedOnce};
 
 use crate::fault::{Fault, Lost};
 use crate::streams::{read_bytes, read_line, write_frame};
@@ -13,8 +14,8 @@ use storage::table::Table;
 
 // Streams, servers and rooms stand by themselves: of a struct that lends them, nothing is known of them once it is let go.
 
-// The answer to the request that follows its head. A request that is too long, or to a site that has no number, is
-// answered by no bytes.
+// The answer to the request that follows its head, of the server that the head names. A request that is too long, or to a
+// site that has no number, is answered by no bytes.
 fn respond<R: Read, C: Carrier>(
     input: &mut R,
     table: &Table,
@@ -24,7 +25,7 @@ fn respond<R: Read, C: Carrier>(
     answer: &mut [u8],
 ) -> Result<usize, Lost>
     ensures within { Within result (length answer.new) }
-    ensures served { Served C.carries (length answer.old) (table_of table.now) servers.old servers.new }
+    ensures served { ServedOnce C.carries (length answer.old) (table_of table.now) (site_of head.entry.site) servers.old servers.new }
 {
     let Some(len) = read_bytes(input, head.len as usize, request)? else {
         return Ok(0);
