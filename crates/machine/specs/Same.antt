@@ -23,8 +23,8 @@ parts_of m = status_number m.status ∷ m.next ∷ m.registers
 abbrev pub same_machines : Machine → Machine → Bool
 same_machines = on parts_of (pointwise nat_eq)
 
--- whether two scripts are in the same state: the same machine, the same memory and the same steps
+-- whether two scripts are in the same state: the same machine, the same steps and the same memory
 abbrev pub same_states : State → State → Bool
 same_states =
     eq_of_both (on (λ x. x.machine) same_machines)
-    (eq_of_both (on (λ x. x.memory) (pointwise nat_eq)) (on (λ x. x.script) (pointwise same_steps)))
+    (eq_of_both (on (λ x. x.script) (pointwise same_steps)) (on (λ x. x.memory) (pointwise nat_eq)))

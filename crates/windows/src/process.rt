@@ -65,6 +65,6 @@ impl PartialEq for Process {
         ensures is { result ≡ on state_of same_states self.now other.now }
         ensures same { Decides result (state_of self.now ≡ state_of other.now) }
     {
-        self.machine == other.machine && self.memory == other.memory && self.script == other.script
+        self.machine == other.machine && self.script == other.script && self.memory == other.memory
     }
 }
