@@ -151,6 +151,7 @@ fn record(text: &mut Scanner<'_>) -> Option<Record>
     let site = window(text)?;
     let n = text.number(b" ", u8::MAX as u64)?;
     // No `?` here, nor where a record and a line are handed on: each is of some kilobytes, which it would copy once more.
+    // Above, where it copies what is let out, it costs nothing that can be measured.
     let Some(page) = next_out(text) else {
         return None;
     };

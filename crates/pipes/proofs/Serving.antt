@@ -13,7 +13,7 @@ module _ {C : Type 0} (carries : ℕ → C → ℕ → List ℕ → List ℕ →
       let q = subst (λ (k : ℕ). Served carries k sites b c) same later in
       (q.0 ++ p.0, took_on q.0 p.0 a b c p.1 q.1)
 
-  -- one exchange is some exchanges
+  -- one exchange, or none, is some exchanges
   served_one : (site : List ℕ × ℕ) (x : Option Exchange) (a c : C) → Asks carries room sites site x a c → Served carries room sites a c
   served_one site None a c p = ([], p)
   served_one site (Some x) a c p = (x ∷ [], (a, refl, p.0, ap is_some p.1))

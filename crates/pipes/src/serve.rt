@@ -14,8 +14,8 @@ use storage::table::Table;
 
 // Streams, servers and rooms stand by themselves: of a struct that lends them, nothing is known of them once it is let go.
 
-// The answer to the request that follows its head, of the server that the head names. A request that is too long, or to a
-// site that has no number, is answered by no bytes.
+// The answer to the request that follows its head, by the server of the site that the head names. A request that is too
+// long, or to a site that has no number, is answered by no bytes.
 fn respond<R: Read, C: Carrier>(
     input: &mut R,
     table: &Table,

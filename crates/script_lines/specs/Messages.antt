@@ -14,7 +14,7 @@ operand_text Kind = codes "the kind of a step, up to 10"
 operand_text Call = codes "what a wait asks for, up to 5"
 operand_text Place = codes "a place of the memory, up to 4095"
 
--- Anything.
+-- An operand, or something else.
 abbrev pub expected_text : Expected → List ℕ
 expected_text expected.Mnemonic = codes "a mnemonic, or a label and `:`"
 expected_text (expected.Operand operand) = operand_text operand
