@@ -32,8 +32,8 @@ impl<'a> Scanner<'a> {
     }
 
     // The number behind a fixed text, if it is at most max. If there is none, all is still to be read.
-    // Out of line, as `bytes` is: inlined in what reads a line of the book, each way out of it would clear the kilobytes that
-    // are answered there.
+    // Out of line: inlined in what reads a line of the book, each way out of it would clear the kilobytes that are answered
+    // there.
     #[inline(never)]
     pub fn number(&mut self, word: &[u8], max: u64) -> Option<u64>
         ensures is { with result self.new.rest.now ≡ number_after word.now max self.old.rest.now }
@@ -46,7 +46,6 @@ impl<'a> Scanner<'a> {
     }
 
     // The bytes behind a fixed text, if they are at most N. If there are none, all is still to be read.
-    #[inline(never)]
     pub fn bytes<const N: usize>(&mut self, word: &[u8]) -> Option<Text<N>>
         ensures is { with (option_map text_of result) self.new.rest.now ≡ bytes_after word.now N self.old.rest.now }
         ensures stays { IfNone result (self.new.rest.now ≡ self.old.rest.now) }
